@@ -7,7 +7,7 @@ use crate::sessions::two_tenants;
 use crate::ways::TestServer;
 use log::Log;
 use mt_alone::{Alone, serve_alone};
-use mt_book::Book;
+use mt_book::{Baton, Book, Runner};
 use mt_core::{MAX_STEPS, State};
 use mt_disk::MemDisk;
 use mt_options::TenantQuota;
@@ -109,7 +109,9 @@ fn serve_booked<L: Ledger, T: Wait + Clock + Log, R: Source, W: Sink>(
     };
     let turns = Turns::new(Checks::<MemDisk>::new(0, 0, None));
     let keeper = Keeper::new(alloc, logs, 0);
-    let mut caller = DeskCaller::new(rt, alloc, book, pass, keeper, &turns, &TENANTS);
+    let baton = Baton::new();
+    let runner = Runner::new(&baton, 0);
+    let mut caller = DeskCaller::new(rt, alloc, book, pass, keeper, &turns, &TENANTS, runner);
     let ended = serve(alloc, reader, writer, &mut caller);
     ended
 }

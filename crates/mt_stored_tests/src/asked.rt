@@ -1,30 +1,62 @@
-//! What is asked of a state, by operations that run alone, and what it answers.
+//! What is asked of a state, by operations that run alone, and what it answers. The pairs that two clients put.
 
-use crate::pairs::{Pair, is_pair, pair_of, pairs_of};
 use crate::sessions::put_of;
 use mt_core::State;
-use mt_rows::{ColumnIndexes, Command, Key, Reply, StampedRow};
+use mt_rows::{ColumnIndexes, Command, Key, Reply, Row, StampedRow};
 use mt_state::Move;
 use std::alloc::{AllocError, Global};
 use std::process::Abort;
 
-// A pair's key, or the empty one if there is no pair.
-fn key_of(alloc: Global, pair: Option<&Pair>) -> Result<Key, AllocError> {
-    match pair {
-        Some(pair) => {
-            let (key, _) = pair;
-            Ok(Key::new(Vec::from_slice(alloc, key.as_slice())?))
-        }
-        None => Ok(Key::new(Vec::new(alloc))),
+// A pair: its key, and the only byte of its only column.
+type Pair = ([u8; 9], u8);
+
+// What a client puts at a put of this number. Two keys share their first eight bytes, so they lie in a tree of their
+// own. The column's byte is not that of the pairs beside it.
+fn pair_of(client: u8, number: u16) -> Pair {
+    let [high, low] = (number / 2).to_be_bytes();
+    let [_, column] = number.to_be_bytes();
+    let last = if number % 2 == 0 { 0 } else { 1 };
+    ([client, high, low, 0, 0, 0, 0, 0, last], column)
+}
+
+// The pairs of a client who has put so many times, after those of others.
+fn push_pairs(pairs: &mut Vec<Pair>, client: u8, count: u16) -> Result<(), AllocError> {
+    for number in 0..count {
+        pairs.push(pair_of(client, number))?;
+    }
+    Ok(())
+}
+
+// The pairs of two clients who have put so many times each, in rising order.
+fn pairs_of(alloc: Global, count: u16) -> Result<Vec<Pair>, AllocError> {
+    let mut pairs = Vec::new(alloc);
+    push_pairs(&mut pairs, 0, count)?;
+    push_pairs(&mut pairs, 1, count)?;
+    Ok(pairs)
+}
+
+// Whether a key and a row are this pair.
+fn is_pair(key: &Key, row: &Row, wanted: &Pair) -> bool {
+    let (wanted_key, value) = wanted;
+    match row.columns() {
+        [column] => key.as_bytes() == wanted_key.as_slice()
+            && column.as_bytes() == [*value].as_slice(),
+        _ => false,
     }
 }
 
 // A scan of 64 pairs after the key of a pair, or from the first one on.
 fn scan_of(alloc: Global, last: Option<&Pair>) -> Result<Command, AllocError> {
-    let from = key_of(alloc, last)?;
+    let from = match last {
+        Some(pair) => {
+            let (key, _) = pair;
+            Vec::from_slice(alloc, key.as_slice())?
+        }
+        None => Vec::new(alloc),
+    };
     let columns = ColumnIndexes::new(Vec::new(alloc));
     Ok(Command::Scan {
-        from,
+        from: Key::new(from),
         after: true,
         count: 64,
         columns,

@@ -5,18 +5,17 @@ ghost use Rattle.mt_book.specs.{Keeping.IsUnasked, Names.AreNames};
 use self::Act::{Puts, Settles, SettlesWithout};
 use crate::disks::{Fails, FlakyDisk, NEVER};
 use crate::images::{disk_with, hold_all_with, tenant_7};
-use crate::sessions::Session;
-use crate::stories::{bare_slots, joined, new_store, session_of};
+use crate::sessions::{Served, Session};
+use crate::stories::{bare_slots, new_store};
 use log::sink::Locked;
 use log::{Level, Log, Logged};
-use mt_book::{BookLock, Kept, Names};
+use mt_book::Names;
 use mt_disk::MemDisk;
 use mt_history::Naming;
 use mt_rows::Refusal;
-use mt_service::Turns;
 use mt_slots::{Slot, StoreSlots};
 use mt_store_logs::FileImages;
-use mt_stored::{Checks, DueTurn, Store, TurnStop, locked_logs};
+use mt_stored::{Checks, DueTurn, Store, TurnStop};
 use std::alloc::{AllocError, Global};
 use std::marker::Brand;
 use std::process::Abort;
@@ -68,61 +67,46 @@ pub(crate) fn expect_recovered(
     assert_eq!(rt; slots.newest(), newest);
 }
 
-// How many pairs the checkpoint of a slot has, if it has one.
-fn count_in(
-    rt: &impl Abort,
-    alloc: Global,
-    slots: &mut StoreSlots<MemDisk>,
-    slot: Slot,
-) -> Option<usize> {
-    let loaded = slots.load(alloc, slot).expect(rt, "a slot is read");
-    loaded.map(|checkpoint| checkpoint.pairs.len())
-}
-
 // What slots have.
 fn found_in(rt: &impl Abort, alloc: Global, slots: StoreSlots<FlakyDisk>) -> Found {
     let newest = slots.newest();
     let mut slots = copies_of(alloc, slots).expect(rt, "memory");
-    let first = count_in(rt, alloc, &mut slots, Slot::First);
-    let second = count_in(rt, alloc, &mut slots, Slot::Second);
+    let first = slots.load(alloc, Slot::First).expect(rt, "a slot");
+    let second = slots.load(alloc, Slot::Second).expect(rt, "a slot");
+    let first = first.map(|checkpoint| checkpoint.pairs.len());
+    let second = second.map(|checkpoint| checkpoint.pairs.len());
     (first, second, newest)
 }
 
-// Whether the client settles so many times, and is told a number each time.
-fn settles<L: Ledger, J: Naming, R: Wait + Clock + Log>(
-    session: &mut Session<'_, L, J, R>,
-    count: u8,
-) -> bool {
-    for _ in 0..count {
-        if session.settle().is_err() {
-            return false;
-        }
-    }
-    true
-}
-
-// Whether an act comes out as it should.
-fn comes_out<L: Ledger, J: Naming, R: Wait + Clock + Log>(
-    rt: &R,
-    alloc: Global,
-    turns: &Turns<FlakyDisk>,
-    session: &mut Session<'_, L, J, R>,
-    act: Act,
-) -> bool {
-    match act {
-        Puts(count) => session.puts(alloc, count),
-        Settles(count) => settles(session, count),
-        Act::Fails => session.settle() == Err(Refusal::Device),
-        SettlesWithout(count) => {
-            turns.count_settled(rt, u64::MAX);
-            let taken = turns.lock(rt).checks.take_due();
-            let Some(due) = taken else {
+impl<L: Ledger, J: Naming, R: Wait + Clock + Log> Session<'_, L, J, R> {
+    // Whether the client settles so many times, and is told a number each time.
+    fn settles(&mut self, count: u8) -> bool {
+        for _ in 0..count {
+            if self.settle().is_err() {
                 return false;
-            };
-            let settled = settles(session, count);
-            let stopped = Err((TurnStop::Logs(Refusal::Device), due.slots));
-            let _ = turns.lock(rt).checks.end_turn(stopped);
-            settled
+            }
+        }
+        true
+    }
+
+    // Whether an act comes out as it should.
+    fn comes_out(&mut self, rt: &R, act: Act) -> bool {
+        match act {
+            Puts(count) => self.puts(count),
+            Settles(count) => self.settles(count),
+            Act::Fails => self.settle() == Err(Refusal::Device),
+            SettlesWithout(count) => {
+                let turns = self.turns;
+                turns.count_settled(rt, u64::MAX);
+                let taken = turns.lock(rt).checks.take_due();
+                let Some(due) = taken else {
+                    return false;
+                };
+                let settled = self.settles(count);
+                let stopped = Err((TurnStop::Logs(Refusal::Device), due.slots));
+                let _ = turns.lock(rt).checks.end_turn(stopped);
+                settled
+            }
         }
     }
 }
@@ -153,21 +137,14 @@ fn played_named<L: Ledger, J: Naming, R: Wait + Clock + Log + Abort>(
     requires names { AreNames L.name L.parts J.name J.parts J.book names store.source.state }
     requires unasked { IsUnasked store.source.state }
 {
-    let (state, logs, slots) = store.into_parts();
-    let logs = locked_logs(alloc, logs).expect(rt, "memory");
-    let book = BookLock::new(Kept::<L, J>::new(alloc, names, state));
-    let turns = Turns::new(Checks::new(every, 0, slots));
-    let mut session = session_of(rt, alloc, &book, &logs, &turns, 0);
+    let served = Served::<L, J, R>::new(rt, alloc, names, store, every);
+    let mut session = served.session(0);
     for (place, act) in acts.iter().enumerate() {
-        assert!(rt;
-            comes_out(rt, alloc, &turns, &mut session, *act),
-            "{place}: {act:?}"
-        );
+        assert!(rt; session.comes_out(rt, *act), "{place}: {act:?}");
     }
     drop(session);
-    drop(joined(rt, alloc, book, logs));
-    let slots = turns.into_checks().into_slots().expect(rt, "the slots");
-    found_in(rt, alloc, slots)
+    let (_, _, slots) = served.joined().into_parts();
+    found_in(rt, alloc, slots.expect(rt, "the slots"))
 }
 
 const NONE: Found = (None, None, None);

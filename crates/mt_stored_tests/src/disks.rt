@@ -15,6 +15,16 @@ pub(crate) const NEVER: Fails = (0, 0);
 /// None of a worker's three files.
 pub(crate) const SOUND: [Fails; 3] = [NEVER; 3];
 
+/// These of one of eight disks: of the plain, the even and the odd file of either of two workers, in this order, or of one of
+/// both slots.
+pub(crate) fn fails_of(disk: usize, fails: Fails) -> [Fails; 8] {
+    let mut all = [NEVER; 8];
+    if let Some(one) = all.get_mut(disk) {
+        *one = fails;
+    }
+    all
+}
+
 /// A disk in memory, some of whose calls fail. It may have a device that gives back another last byte than it was given, or
 /// another byte from its first cut on.
 #[derive(Drop)]

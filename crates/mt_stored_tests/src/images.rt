@@ -110,15 +110,6 @@ pub(crate) fn logs_left(
     images
 }
 
-/// What reads of these logs' files give.
-pub(crate) fn images_of(
-    rt: &impl Abort,
-    alloc: Global,
-    logs: &[StoreLog<FlakyDisk>],
-) -> Vec<FileImages> {
-    logs_left(rt, alloc, logs, Left::All)
-}
-
 /// A disk in memory with this image.
 pub(crate) fn disk_with(alloc: Global, image: &[u8]) -> Result<MemDisk, AllocError> {
     MemDisk::with_image(alloc, image.to_vec(alloc)?, Vec::new(alloc), None)

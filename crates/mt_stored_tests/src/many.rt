@@ -2,7 +2,7 @@
 
 use crate::asked::{expect_all, put_all};
 use crate::disks::{FlakyDisk, SOUND};
-use crate::images::images_of;
+use crate::images::{Left, logs_left};
 use crate::stories::{bare_slots, new_store, recovered};
 use log::Log;
 use mt_core::State;
@@ -30,7 +30,7 @@ pub(crate) fn settled<R: Wait + Clock + Log + Abort>(
     assert!(rt; store.settle_last(rt, alloc).is_ok());
     let (_, logs, _) = store.into_parts();
     assert!(rt; logs.iter().all(|log| log.mark().is_some()));
-    images_of(rt, alloc, &logs)
+    logs_left(rt, alloc, &logs, Left::All)
 }
 
 // Two workers put all pairs, scans show them, and a Settle keeps them.

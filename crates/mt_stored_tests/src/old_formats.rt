@@ -2,11 +2,13 @@
 
 use crate::asked::asked;
 use crate::disks::FlakyDisk;
-use crate::images::{images_of, plain_image};
+use crate::images::plain_image;
+use crate::many::settled;
+use crate::sessions::get_of;
 use crate::stories::{self, slots_of};
 use log::Log;
 use mt_core::State;
-use mt_rows::{Column, ColumnIndexes, Command, Key, NamedColumns, Reply, StampedRow};
+use mt_rows::{Column, Command, Key, NamedColumns, Reply, StampedRow};
 use mt_store_logs::FileImages;
 use mt_stored::Store;
 use std::alloc::{AllocError, Global};
@@ -38,20 +40,9 @@ fn recovered(rt: &impl Abort, alloc: Global, log: &[u8], checkpoint: &[u8]) -> S
     stories::recovered(rt, alloc, images, slots)
 }
 
-// A key of one byte.
-fn key_of(alloc: Global, key: u8) -> Result<Key, AllocError> {
-    Ok(Key::new(Vec::from_slice(alloc, &[key])?))
-}
-
-fn get_of(alloc: Global, key: u8) -> Result<Command, AllocError> {
-    let key = key_of(alloc, key)?;
-    let columns = ColumnIndexes::new(Vec::new(alloc));
-    Ok(Command::Get { key, columns })
-}
-
 // A put of column 1 alone, of one byte, on condition of a stamp.
 fn put_if(alloc: Global, key: u8, stamp: u64, value: u8) -> Result<Command, AllocError> {
-    let key = key_of(alloc, key)?;
+    let key = Key::new(Vec::from_slice(alloc, &[key])?);
     let mut columns = Vec::new(alloc);
     columns.push((1, Column::from_slice(alloc, &[value])?))?;
     let change = NamedColumns::new(columns);
@@ -60,7 +51,7 @@ fn put_if(alloc: Global, key: u8, stamp: u64, value: u8) -> Result<Command, Allo
 
 // The row of a key.
 fn found(rt: &impl Abort, alloc: Global, state: &mut State, key: u8) -> StampedRow {
-    let command = get_of(alloc, key).expect(rt, "memory");
+    let command = get_of(alloc, &[key]).expect(rt, "memory");
     match asked(rt, state, 0, command) {
         Reply::Found(row) => row,
         _ => panic!(rt; "key {key} has no row"),
@@ -92,10 +83,7 @@ fn gone_on<R: Wait + Clock + Log + Abort>(
     let command = put_if(alloc, b'k', stamp, b'x').expect(rt, "memory");
     let is_put = matches!(asked(rt, &mut state, 0, command), Reply::Replaced);
     assert!(rt; is_put, "stamp {stamp}");
-    let mut store = Store::joined(state, logs, None).expect(rt, "a store");
-    assert!(rt; store.settle_last(rt, alloc).is_ok());
-    let (_, logs, _) = store.into_parts();
-    let mut images = images_of(rt, alloc, &logs);
+    let mut images = settled(rt, alloc, state, logs);
     let FileImages {
         plain,
         even: _,

@@ -4,20 +4,18 @@
 ghost use Rattle.mt_book.specs.{Keeping.IsUnasked, Names.AreNames};
 
 use crate::checks::copies_of;
-use crate::disks::{Fails, FlakyDisk, NEVER};
-use crate::images::{Left, images_of, key_of, left_of, logs_left, pairs_left, tenant_7};
+use crate::disks::{FlakyDisk, fails_of};
+use crate::images::{Left, key_of, left_of, logs_left, pairs_left, tenant_7};
 use crate::kept_digests::{KeptDigests, digest_disks, does_agree};
-use crate::stories::{
-    TENANTS, new_store, recovered, session_of, shared_logs, slots_of, slots_with,
-};
+use crate::sessions::Served;
+use crate::stories::{recovered, slots_of, store_of_two};
 use log::sink::Locked;
 use log::{Level, Log, Logged};
-use mt_book::{BookLock, Kept, Names, open_pass};
+use mt_book::Names;
 use mt_history::Naming;
 use mt_rows::TenantPair;
-use mt_service::{Turner, Turns};
-use mt_store_logs::{FileImages, StoreLog};
-use mt_stored::{Checks, Store, locked_logs, unlocked_logs};
+use mt_store_logs::FileImages;
+use mt_stored::{Store, locked_logs, unlocked_logs};
 use std::alloc::Global;
 use std::marker::Brand;
 use std::process::Abort;
@@ -28,52 +26,26 @@ use std::time::Clock;
 // In each round two clients put two keys each, one of them settles, and a turn is made.
 const ROUNDS: u16 = 3;
 
-// The calls of eight disks, if from a call on none is made of one of them: of the plain, the even and the odd file of either
-// worker, in this order, or of one of both slots.
-fn fails_of(disk: usize, call: u64) -> [Fails; 8] {
-    let mut fails = [NEVER; 8];
-    if let Some(one) = fails.get_mut(disk) {
-        *one = (call, u64::MAX);
-    }
-    fails
-}
-
-// A new store of two workers, of whose disks these calls fail.
-fn store_with(rt: &impl Abort, alloc: Global, fails: [Fails; 8]) -> Store<FlakyDisk>
-    ensures { IsUnasked result.source.state }
-{
-    let [a, b, c, d, e, f, first, second] = fails;
-    let slots = slots_with(alloc, [first, second]);
-    new_store(rt, alloc, &[[a, b, c], [d, e, f]], slots)
-}
-
 // Plays all rounds. In how many of them all was put and settled.
 fn play<L: Ledger, J: Naming, R: Wait + Clock + Log + Abort>(
-    rt: &R,
-    alloc: Global,
-    book: &BookLock<L, J>,
-    logs: &[Mutex<StoreLog<FlakyDisk>>],
-    turns: &Turns<FlakyDisk>,
+    served: &Served<'_, L, J, R>,
     disks: &Mutex<Vec<FlakyDisk>>,
 ) -> u16 {
-    let mut first = session_of(rt, alloc, book, logs, turns, 0);
-    let mut second = session_of(rt, alloc, book, logs, turns, 1);
-    let (pass, clerk) = open_pass(rt, book, 0).expect(rt, "a pass");
-    let digests = KeptDigests {
-        rt,
-        alloc,
-        logs,
+    let mut first = served.session(0);
+    let mut second = served.session(1);
+    let mut turner = served.turner(KeptDigests {
+        rt: served.rt,
+        alloc: served.alloc,
+        logs: &served.logs,
         disks,
-    };
-    let shared = shared_logs(rt, book, logs);
-    let mut turner = Turner::new(rt, alloc, clerk, pass, shared, &TENANTS, digests);
+    });
     let mut settled = 0;
     for round in 1..=ROUNDS {
-        assert!(rt; first.puts(alloc, 2) && second.puts(alloc, 2));
+        assert!(served.rt; first.puts(2) && second.puts(2));
         if second.settle_alone().is_ok() {
             settled = round;
         }
-        turner.make_turn_if_due(turns);
+        turner.make_turn_if_due(&served.turns);
     }
     settled
 }
@@ -92,40 +64,35 @@ fn counts_in(pairs: &[TenantPair]) -> Option<[u16; 2]> {
     Some(counts)
 }
 
-// An image agrees with the digest at a place.
-fn expect_agrees(
-    rt: &impl Abort,
-    alloc: Global,
-    image: &[u8],
-    digests: &[FlakyDisk],
-    place: usize,
-    left: Left,
-) {
-    let is_so = match digests.get(place) {
-        Some(digest) => does_agree(rt, alloc, image, digest, left),
-        None => false,
-    };
-    assert!(rt; is_so, "{place}, {left:?}");
-}
-
 // The images of two workers' files and of both slots agree with their digests.
 fn expect_agreed(
     rt: &impl Abort,
     alloc: Global,
     files: &[FileImages],
-    slots: [&[u8]; 2],
+    [first, second]: [&[u8]; 2],
     digests: &[FlakyDisk],
     left: Left,
 ) {
-    for (worker, one) in files.iter().enumerate() {
-        let place = worker.saturating_mul(3);
-        expect_agrees(rt, alloc, &one.plain, digests, place, left);
-        expect_agrees(rt, alloc, &one.even, digests, place.saturating_add(1), left);
-        expect_agrees(rt, alloc, &one.odd, digests, place.saturating_add(2), left);
+    let [one, other] = files else {
+        panic!(rt; "the files of two workers are there");
+    };
+    let images = [
+        one.plain.as_slice(),
+        one.even.as_slice(),
+        one.odd.as_slice(),
+        other.plain.as_slice(),
+        other.even.as_slice(),
+        other.odd.as_slice(),
+        first,
+        second,
+    ];
+    assert_eq!(rt; digests.len(), images.len());
+    for (place, (image, digest)) in images.iter().zip(digests).enumerate() {
+        assert!(rt;
+            does_agree(rt, alloc, image, digest, left),
+            "{place}, {left:?}"
+        );
     }
-    let [first, second] = slots;
-    expect_agrees(rt, alloc, first, digests, 6, left);
-    expect_agrees(rt, alloc, second, digests, 7, left);
 }
 
 // The pairs of a store with these images, which starts and loses its power before it serves.
@@ -140,7 +107,7 @@ fn pairs_after_a_start(
     let locks = locked_logs(alloc, logs).expect(rt, "memory");
     let logs = unlocked_logs(alloc, locks).expect(rt, "memory");
     let slots = copies_of(alloc, slots.expect(rt, "the slots"));
-    let files = images_of(rt, alloc, &logs);
+    let files = logs_left(rt, alloc, &logs, Left::All);
     let mut slots = slots.expect(rt, "memory");
     let pairs = pairs_left(alloc, &files, &mut slots, &tenant_7(rt, alloc));
     pairs.expect(rt, "a recovery")
@@ -158,15 +125,12 @@ fn loses_nothing<L: Ledger, J: Naming, R: Wait + Clock + Log + Abort>(
     requires names { AreNames L.name L.parts J.name J.parts J.book names store.source.state }
     requires unasked { IsUnasked store.source.state }
 {
-    let (state, logs, slots) = store.into_parts();
-    let turns = Turns::new(Checks::new(1, 0, slots));
-    let logs = locked_logs(alloc, logs).expect(rt, "memory");
-    let book = BookLock::new(Kept::<L, J>::new(alloc, names, state));
+    let served = Served::<L, J, R>::new(rt, alloc, names, store, 1);
     let disks = Mutex::new(digests);
-    let settled = play(rt, alloc, &book, &logs, &turns, &disks);
+    let settled = play(&served, &disks);
     let disks = disks.into_inner();
-    let logs = unlocked_logs(alloc, logs).expect(rt, "memory");
-    let slots = turns.into_checks().into_slots().expect(rt, "the slots");
+    let (_, logs, checks) = served.into_parts();
+    let slots = checks.into_slots().expect(rt, "the slots");
     let (first, second) = slots.into_disks();
     for left in [Left::All, Left::Durable] {
         let files = logs_left(rt, alloc, &logs, left);
@@ -185,13 +149,10 @@ fn loses_nothing<L: Ledger, J: Naming, R: Wait + Clock + Log + Abort>(
 // Whether the disk of a file, or that of its digest, comes to this call in all rounds. Nothing that was settled is lost if it
 // stops there.
 fn stops_at<R: Wait + Clock + Abort>(rt: &R, alloc: Global, disk: usize, call: u64) -> bool {
-    let (of_files, of_digests) = if disk < 8 {
-        (fails_of(disk, call), [NEVER; 8])
-    } else {
-        ([NEVER; 8], fails_of(disk - 8, call))
-    };
-    let store = store_with(rt, alloc, of_files);
-    let digests = digest_disks(rt, alloc, of_digests);
+    // From the call on the disk makes none.
+    let fails = (call, u64::MAX);
+    let store = store_of_two(rt, alloc, fails_of(disk, fails));
+    let digests = digest_disks(rt, alloc, fails_of(disk.wrapping_sub(8), fails));
     let logged = Logged::new(rt, Level::Warn, Locked::new(rt, Vec::new(alloc)));
     let names = Names::new(store.state());
     loses_nothing::<Brand, Brand, _>(&logged, alloc, names, store, digests);

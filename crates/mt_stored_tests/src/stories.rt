@@ -3,31 +3,23 @@
 ghost use Rattle.mt_book.specs.{Keeping.IsUnasked, Names.AreNames};
 
 use crate::disks::{Fails, FlakyDisk, NEVER, SOUND};
-use crate::images::{files_with, hold_all, image_of, images_of, plain_image, tenant_7};
-use crate::sessions::{Session, WorkerCaller};
+use crate::images::{Left, files_with, hold_all, image_of, logs_left, plain_image, tenant_7};
+use crate::sessions::{Served, Session};
 use log::sink::Locked;
 use log::{Level, Log, Logged};
-use mt_book::{BookLock, Kept, Names, open_clerk, open_pass};
+use mt_book::Names;
 use mt_history::Naming;
-use mt_options::TenantQuota;
 use mt_recover::LogSlot;
 use mt_rows::Refusal;
-use mt_service::{DeskCaller, Turner, Turns};
 use mt_slots::StoreSlots;
-use mt_store_logs::{FileImages, StoreLog};
-use mt_stored::{Checks, Keeper, NoDigests, SharedLogs, Store, locked_logs, unlocked_logs};
+use mt_store_logs::FileImages;
+use mt_stored::Store;
 use std::alloc::{AllocError, Global};
 use std::marker::Brand;
 use std::process::Abort;
+use std::sync::Wait;
 use std::sync::ledger::Ledger;
-use std::sync::{Mutex, Wait};
 use std::time::Clock;
-
-/// The tenants that are served.
-pub(crate) const TENANTS: [TenantQuota; 1] = [TenantQuota {
-    tenant: 7,
-    quota: 200_000,
-}];
 
 /// A new store with these slots. Some calls of its files fail: of each worker's plain one, of the even and of the odd one.
 pub(crate) fn new_store(
@@ -49,6 +41,15 @@ pub(crate) fn new_store(
         Ok(store) => store,
         Err(_) => panic!(rt; "no store is made"),
     }
+}
+
+/// A new store of two workers, of whose eight disks these calls fail.
+pub(crate) fn store_of_two(rt: &impl Abort, alloc: Global, fails: [Fails; 8]) -> Store<FlakyDisk>
+    ensures { IsUnasked result.source.state }
+{
+    let [a, b, c, d, e, f, first, second] = fails;
+    let slots = slots_with(alloc, [first, second]);
+    new_store(rt, alloc, &[[a, b, c], [d, e, f]], slots)
 }
 
 /// The store that files and slots hold.
@@ -94,120 +95,6 @@ pub(crate) fn slots_with(alloc: Global, fails: [Fails; 2]) -> StoreSlots<FlakyDi
     StoreSlots::found(disk(first), disk(second))
 }
 
-/// The logs of a book, with a clerk of their own.
-pub(crate) fn shared_logs<'a, L: Ledger, J: Naming, R: Wait + Clock + Abort>(
-    rt: &'a R,
-    book: &'a BookLock<L, J>,
-    logs: &'a [Mutex<StoreLog<FlakyDisk>>],
-) -> SharedLogs<'a, L, J, R, FlakyDisk> {
-    SharedLogs::new(rt, open_clerk(rt, book).expect(rt, "a clerk"), logs)
-}
-
-/// What answers a session of a worker.
-pub(crate) fn caller_of<'a, L: Ledger, J: Naming, R: Wait + Clock + Log + Abort>(
-    rt: &'a R,
-    alloc: Global,
-    book: &'a BookLock<L, J>,
-    logs: &'a [Mutex<StoreLog<FlakyDisk>>],
-    turns: &'a Turns<FlakyDisk>,
-    worker: u8,
-) -> WorkerCaller<'a, L, J, R> {
-    let (pass, clerk) = open_pass(rt, book, worker).expect(rt, "a pass");
-    let keeper = Keeper::new(alloc, shared_logs(rt, book, logs), worker);
-    DeskCaller::new(rt, alloc, clerk, pass, keeper, turns, &TENANTS)
-}
-
-/// A session of a worker.
-pub(crate) fn session_of<'a, L: Ledger, J: Naming, R: Wait + Clock + Log + Abort>(
-    rt: &'a R,
-    alloc: Global,
-    book: &'a BookLock<L, J>,
-    logs: &'a [Mutex<StoreLog<FlakyDisk>>],
-    turns: &'a Turns<FlakyDisk>,
-    worker: u8,
-) -> Session<'a, L, J, R> {
-    let caller = caller_of(rt, alloc, book, logs, turns, worker);
-    let (own, other) = open_pass(rt, book, 0).expect(rt, "a pass");
-    let shared = shared_logs(rt, book, logs);
-    let mut session = Session {
-        caller,
-        turner: Turner::new(rt, alloc, other, own, shared, &TENANTS, NoDigests {}),
-        turns,
-        worker,
-        count: 0,
-    };
-    assert!(rt; session.open());
-    session
-}
-
-/// A session of each worker.
-pub(crate) fn sessions_of<'a, L: Ledger, J: Naming, R: Wait + Clock + Log + Abort>(
-    rt: &'a R,
-    alloc: Global,
-    book: &'a BookLock<L, J>,
-    logs: &'a [Mutex<StoreLog<FlakyDisk>>],
-    turns: &'a Turns<FlakyDisk>,
-) -> Vec<Session<'a, L, J, R>> {
-    let mut sessions = Vec::new(alloc);
-    for worker in 0..logs.len().min(64) as u8 {
-        let session = session_of(rt, alloc, book, logs, turns, worker);
-        sessions.push(session).expect(rt, "memory");
-    }
-    sessions
-}
-
-/// How many keys each of the sessions has put.
-pub(crate) fn counts_of<L: Ledger, J: Naming, R: Wait + Clock>(
-    rt: &impl Abort,
-    alloc: Global,
-    sessions: &[Session<'_, L, J, R>],
-) -> Vec<u16> {
-    let mut counts = Vec::new(alloc);
-    for session in sessions {
-        counts.push(session.count).expect(rt, "memory");
-    }
-    counts
-}
-
-/// What stands in the files of these logs now.
-pub(crate) fn images_now<R: Wait + Clock>(
-    rt: &R,
-    alloc: Global,
-    logs: &[Mutex<StoreLog<FlakyDisk>>],
-) -> Result<Vec<FileImages>, Refusal> {
-    let mut images = Vec::new(alloc);
-    for log in logs {
-        let image = image_of(alloc, &*log.lock(rt))?;
-        images.push(image)?;
-    }
-    Ok(images)
-}
-
-/// All that was put is in the files of a store that has ended.
-pub(crate) fn expect_kept(rt: &impl Abort, alloc: Global, store: Store<FlakyDisk>, counts: &[u16]) {
-    let (_, logs, _) = store.into_parts();
-    let images = images_of(rt, alloc, &logs);
-    let tenants = tenant_7(rt, alloc);
-    assert!(rt;
-        hold_all(alloc, &images, &tenants, counts) == Ok(true),
-        "at the end"
-    );
-}
-
-/// A store's end: its logs are joined with its state again, and settled for the last time.
-pub(crate) fn joined<L: Ledger, J: Naming, R: Wait + Clock + Log + Abort>(
-    rt: &R,
-    alloc: Global,
-    book: BookLock<L, J>,
-    logs: Vec<Mutex<StoreLog<FlakyDisk>>>,
-) -> Store<FlakyDisk> {
-    let logs = unlocked_logs(alloc, logs).expect(rt, "memory");
-    let state = book.into_inner().into_book().into_state();
-    let mut store = Store::joined(state, logs, None).expect(rt, "a store");
-    assert!(rt; store.settle_last(rt, alloc).is_ok());
-    store
-}
-
 /// What is done or seen.
 #[derive(Clone, Copy, Debug)]
 enum Act {
@@ -229,117 +116,110 @@ enum Act {
     Read(usize, u64),
 }
 
-/// The least step up to which one of the logs goes, if all are open.
-pub(crate) fn least_mark<R: Wait + Clock>(
-    rt: &R,
-    logs: &[Mutex<StoreLog<FlakyDisk>>],
-) -> Option<u64> {
-    let mut least = u64::MAX;
-    for log in logs {
-        let mark = log.lock(rt).mark();
-        least = least.min(mark?);
-    }
-    Some(least)
-}
-
-// Whether a log is there, and open.
-fn is_open<R: Wait + Clock>(rt: &R, logs: &[Mutex<StoreLog<FlakyDisk>>], log: usize) -> bool {
-    match logs.get(log) {
-        Some(log) => log.lock(rt).mark().is_some(),
-        None => false,
-    }
-}
-
-// How many bytes of a log have been read, if it is there.
-fn bytes_read<R: Wait + Clock>(
-    rt: &R,
-    logs: &[Mutex<StoreLog<FlakyDisk>>],
-    log: usize,
-) -> Option<u64> {
-    match logs.get(log)?.lock(rt).slot() {
-        LogSlot::Open(log) => Some(log.disk().bytes_read()),
-        LogSlot::Failed(log) => Some(log.disk().bytes_read()),
-        LogSlot::Closed(disk) => Some(disk.bytes_read()),
-        LogSlot::Away => None,
-    }
-}
-
-// Whether all that was put is in the files.
-fn is_kept<L: Ledger, J: Naming, R: Wait + Clock + Abort>(
-    rt: &R,
-    alloc: Global,
-    logs: &[Mutex<StoreLog<FlakyDisk>>],
-    sessions: &[Session<'_, L, J, R>],
-) -> bool {
-    let counts = counts_of(rt, alloc, sessions);
-    let tenants = tenant_7(rt, alloc);
-    match images_now(rt, alloc, logs) {
-        Ok(images) => hold_all(alloc, &images, &tenants, &counts) == Ok(true),
-        Err(_) => false,
-    }
-}
-
-// Whether an act comes out as it should, after which the logs were last seen to go up to a step.
-fn comes_out<L: Ledger, J: Naming, R: Wait + Clock + Log + Abort>(
-    rt: &R,
-    alloc: Global,
-    logs: &[Mutex<StoreLog<FlakyDisk>>],
-    sessions: &mut [Session<'_, L, J, R>],
-    seen: &mut u64,
-    act: Act,
-) -> bool {
-    match act {
-        Act::Puts(worker, count) => match sessions.get_mut(worker) {
-            Some(session) => session.puts(alloc, count),
-            None => false,
-        },
-        Act::Gets(worker, count) => match sessions.get_mut(worker) {
-            Some(session) => session.gets(alloc, count),
-            None => false,
-        },
-        Act::Settles(worker) => {
-            let told = match sessions.get_mut(worker) {
-                Some(session) => session.settle().is_ok(),
-                None => false,
-            };
-            told && is_kept(rt, alloc, logs, sessions)
+impl<L: Ledger, J: Naming, R: Wait + Clock + Log + Abort> Served<'_, L, J, R> {
+    // A session of each worker.
+    fn sessions(&self) -> Vec<Session<'_, L, J, R>> {
+        let mut sessions = Vec::new(self.alloc);
+        for worker in 0..self.logs.len().min(64) as u8 {
+            let session = self.session(worker);
+            sessions.push(session).expect(self.rt, "memory");
         }
-        Act::Fails(worker) => match sessions.get_mut(worker) {
-            Some(session) => session.settle() == Err(Refusal::Device),
-            None => false,
-        },
-        Act::Rise => match least_mark(rt, logs) {
-            Some(least) => {
-                let is_later = *seen < least;
-                *seen = least;
-                is_later
-            }
-            None => false,
-        },
-        Act::Closed(log) => !is_open(rt, logs, log),
-        Act::Open(log) => is_open(rt, logs, log),
-        Act::Read(log, bytes) => bytes_read(rt, logs, log) == Some(bytes),
+        sessions
     }
-}
 
-// Plays a story, each of whose acts comes out as it should; how many keys each client has put.
-fn play<L: Ledger, J: Naming, R: Wait + Clock + Log + Abort>(
-    rt: &R,
-    alloc: Global,
-    book: &BookLock<L, J>,
-    logs: &[Mutex<StoreLog<FlakyDisk>>],
-    acts: &[Act],
-) -> Vec<u16> {
-    let turns = Turns::new(Checks::new(0, 0, None));
-    let mut sessions = sessions_of(rt, alloc, book, logs, &turns);
-    let mut seen = 0;
-    for (place, act) in acts.iter().enumerate() {
-        assert!(rt;
-            comes_out(rt, alloc, logs, &mut sessions, &mut seen, *act),
-            "{place}: {act:?}"
-        );
+    // How many keys each of the sessions has put.
+    fn counts_of(&self, sessions: &[Session<'_, L, J, R>]) -> Vec<u16> {
+        let mut counts = Vec::new(self.alloc);
+        for session in sessions {
+            counts.push(session.count).expect(self.rt, "memory");
+        }
+        counts
     }
-    counts_of(rt, alloc, &sessions)
+
+    // What stands in the files of its logs now.
+    fn images_now(&self) -> Vec<FileImages> {
+        let mut images = Vec::new(self.alloc);
+        for log in &self.logs {
+            let image = image_of(self.alloc, &*log.lock(self.rt));
+            let image = image.expect(self.rt, "an image");
+            images.push(image).expect(self.rt, "memory");
+        }
+        images
+    }
+
+    // Whether all that was put is in the files.
+    fn is_kept(&self, sessions: &[Session<'_, L, J, R>]) -> bool {
+        let counts = self.counts_of(sessions);
+        let tenants = tenant_7(self.rt, self.alloc);
+        hold_all(self.alloc, &self.images_now(), &tenants, &counts) == Ok(true)
+    }
+
+    // Whether a log is there, and open.
+    fn is_open(&self, log: usize) -> bool {
+        match self.logs.get(log) {
+            Some(log) => log.lock(self.rt).mark().is_some(),
+            None => false,
+        }
+    }
+
+    // How many bytes of a log have been read, if it is there.
+    fn bytes_read(&self, log: usize) -> Option<u64> {
+        match self.logs.get(log)?.lock(self.rt).slot() {
+            LogSlot::Open(log) => Some(log.disk().bytes_read()),
+            LogSlot::Failed(log) => Some(log.disk().bytes_read()),
+            LogSlot::Closed(disk) => Some(disk.bytes_read()),
+            LogSlot::Away => None,
+        }
+    }
+
+    // Whether an act comes out as it should, after which the logs were last seen to go up to a step.
+    fn comes_out(&self, sessions: &mut [Session<'_, L, J, R>], seen: &mut u64, act: Act) -> bool {
+        match act {
+            Act::Puts(worker, count) => match sessions.get_mut(worker) {
+                Some(session) => session.puts(count),
+                None => false,
+            },
+            Act::Gets(worker, count) => match sessions.get_mut(worker) {
+                Some(session) => session.gets(count),
+                None => false,
+            },
+            Act::Settles(worker) => {
+                let told = match sessions.get_mut(worker) {
+                    Some(session) => session.settle().is_ok(),
+                    None => false,
+                };
+                told && self.is_kept(sessions)
+            }
+            Act::Fails(worker) => match sessions.get_mut(worker) {
+                Some(session) => session.settle() == Err(Refusal::Device),
+                None => false,
+            },
+            Act::Rise => match self.least_mark() {
+                Some(least) => {
+                    let is_later = *seen < least;
+                    *seen = least;
+                    is_later
+                }
+                None => false,
+            },
+            Act::Closed(log) => !self.is_open(log),
+            Act::Open(log) => self.is_open(log),
+            Act::Read(log, bytes) => self.bytes_read(log) == Some(bytes),
+        }
+    }
+
+    // Plays a story, each of whose acts comes out as it should; how many keys each client has put.
+    fn play(&self, acts: &[Act]) -> Vec<u16> {
+        let mut sessions = self.sessions();
+        let mut seen = 0;
+        for (place, act) in acts.iter().enumerate() {
+            assert!(self.rt;
+                self.comes_out(&mut sessions, &mut seen, *act),
+                "{place}: {act:?}"
+            );
+        }
+        self.counts_of(&sessions)
+    }
 }
 
 // A store over such disks, and a story.
@@ -349,7 +229,7 @@ fn run<R: Wait + Clock + Log + Abort>(rt: &R, alloc: Global, fails: &[[Fails; 3]
     run_named::<Brand, Brand, _>(rt, alloc, names, store, acts);
 }
 
-// The same, over this store and under these names.
+// The same, over this store and under these names. All that was put is in the files at the end.
 fn run_named<L: Ledger, J: Naming, R: Wait + Clock + Log + Abort>(
     rt: &R,
     alloc: Global,
@@ -360,12 +240,12 @@ fn run_named<L: Ledger, J: Naming, R: Wait + Clock + Log + Abort>(
     requires names { AreNames L.name L.parts J.name J.parts J.book names store.source.state }
     requires unasked { IsUnasked store.source.state }
 {
-    let (state, logs, _) = store.into_parts();
-    let logs = locked_logs(alloc, logs).expect(rt, "memory");
-    let book = BookLock::new(Kept::<L, J>::new(alloc, names, state));
-    let counts = play(rt, alloc, &book, &logs, acts);
-    let store = joined(rt, alloc, book, logs);
-    expect_kept(rt, alloc, store, &counts);
+    let served = Served::<L, J, R>::new(rt, alloc, names, store, 0);
+    let counts = served.play(acts);
+    let (_, logs, _) = served.joined().into_parts();
+    let images = logs_left(rt, alloc, &logs, Left::All);
+    let held = hold_all(alloc, &images, &tenant_7(rt, alloc), &counts);
+    assert!(rt; held == Ok(true), "at the end");
 }
 
 // Two workers, both past 1,024 answers, and Settles of either.

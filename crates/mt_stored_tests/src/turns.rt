@@ -3,23 +3,23 @@
 ghost use Rattle.mt_book.specs.{Keeping.IsUnasked, Names.AreNames};
 
 use crate::checks::expect_recovered;
-use crate::disks::{FlakyDisk, NEVER, SOUND};
-use crate::images::images_of;
-use crate::stories::{new_store, recovered, session_of, shared_logs, slots_with};
+use crate::disks::{FlakyDisk, NEVER, SOUND, fails_of};
+use crate::images::{self, logs_left};
+use crate::sessions::Served;
+use crate::stories::{new_store, recovered, store_of_two};
 use log::sink::Locked;
 use log::{Level, Log, Logged};
-use mt_book::{BookLock, Kept, Names};
+use mt_book::Names;
 use mt_history::Naming;
-use mt_service::Turns;
 use mt_settle::next_generation;
 use mt_slots::{Slot, StoreSlots};
 use mt_store_logs::{FileImages, StoreLog};
-use mt_stored::{Checks, DueTurn, Store, locked_logs, unlocked_logs};
+use mt_stored::{DueTurn, Store};
 use std::alloc::Global;
 use std::marker::Brand;
 use std::process::Abort;
+use std::sync::Wait;
 use std::sync::ledger::Ledger;
-use std::sync::{Mutex, Wait};
 use std::time::Clock;
 
 // Which call fails, counted from 1, and of which disk: of the plain, the even and the odd file of either worker, in this order,
@@ -47,41 +47,24 @@ struct Left {
 fn store_with(rt: &impl Abort, alloc: Global, case: Case) -> Store<FlakyDisk>
     ensures { IsUnasked result.source.state }
 {
-    let fails = |disk: usize| {
-        if disk == case.disk {
-            (case.call, case.call.saturating_add(1))
-        } else {
-            NEVER
-        }
-    };
-    let files = [
-        [fails(0), fails(1), fails(2)],
-        [fails(3), fails(4), fails(5)],
-    ];
-    let slots = slots_with(alloc, [fails(6), fails(7)]);
-    new_store(rt, alloc, &files, slots)
+    let fails = (case.call, case.call.saturating_add(1));
+    store_of_two(rt, alloc, fails_of(case.disk, fails))
 }
 
 // Two clients put two keys each in each round. Then one of them settles, and makes a turn. If the Settle is refused, it settles
 // again.
 fn play<L: Ledger, J: Naming, R: Wait + Clock + Log + Abort>(
-    rt: &R,
-    alloc: Global,
-    book: &BookLock<L, J>,
-    logs: &[Mutex<StoreLog<FlakyDisk>>],
-    turns: &Turns<FlakyDisk>,
+    served: &Served<'_, L, J, R>,
     case: Case,
 ) {
-    let mut first = session_of(rt, alloc, book, logs, turns, 0);
-    let mut second = session_of(rt, alloc, book, logs, turns, 1);
+    let mut first = served.session(0);
+    let mut second = served.session(1);
     let (from, to) = case.rounds;
     first.skip(from.saturating_mul(2));
     second.skip(from.saturating_mul(2));
     for round in from..to {
-        assert!(rt;
-            first.puts(alloc, 2)
-                && second.puts(alloc, 2)
-                && (second.settle().is_ok() || second.settle().is_ok()),
+        assert!(served.rt;
+            first.puts(2) && second.puts(2) && (second.settle().is_ok() || second.settle().is_ok()),
             "{case:?}, {round}"
         );
     }
@@ -107,19 +90,15 @@ fn played<L: Ledger, J: Naming, R: Wait + Clock + Log + Abort>(
     requires names { AreNames L.name L.parts J.name J.parts J.book names store.source.state }
     requires unasked { IsUnasked store.source.state }
 {
-    let (state, logs, slots) = store.into_parts();
-    let turns = Turns::new(Checks::new(1, 0, slots));
-    let logs = locked_logs(alloc, logs).expect(rt, "memory");
-    let book = BookLock::new(Kept::<L, J>::new(alloc, names, state));
-    play(rt, alloc, &book, &logs, &turns, case);
-    let next = next_generation(rt, &shared_logs(rt, &book, &logs)).expect(rt, "a generation");
-    let logs = unlocked_logs(alloc, logs).expect(rt, "memory");
-    let mut checks = turns.into_checks();
+    let served = Served::<L, J, R>::new(rt, alloc, names, store, 1);
+    play(&served, case);
+    let next = next_generation(rt, &served.shared_logs()).expect(rt, "a generation");
+    let (_, logs, mut checks) = served.into_parts();
     // After a turn that was stopped the next one is due after two settled answers.
     checks.count_settled(u64::MAX);
     checks.count_settled(u64::MAX);
     Left {
-        images: images_of(rt, alloc, &logs),
+        images: logs_left(rt, alloc, &logs, images::Left::All),
         generation: last_generation(&logs),
         next,
         due: checks.take_due().expect(rt, "a turn"),
@@ -185,11 +164,8 @@ fn expect_whole(rt: &impl Abort, alloc: Global, left: Left, case: Case) {
 fn each_turn_leaves_one_generation(rt: HostRuntime) {
     let alloc = rt.alloc();
     for turns in 1..=3u16 {
-        let case = Case {
-            disk: 0,
-            call: 0,
-            rounds: (0, turns),
-        };
+        let (disk, call, rounds) = (0, 0, (0, turns));
+        let case = Case { disk, call, rounds };
         let (left, warnings) = run(&rt, alloc, store_with(&rt, alloc, case), case);
         assert!(rt; warnings.is_empty() && left.generation == u64::from(turns));
         expect_whole(&rt, alloc, left, case);
@@ -205,11 +181,8 @@ const NOT_BEGUN: &str =
 #[test]
 fn a_log_whose_next_one_is_not_begun_is_warned_of(rt: HostRuntime) {
     let alloc = rt.alloc();
-    let case = Case {
-        disk: 2,
-        call: 4,
-        rounds: (0, 1),
-    };
+    let (disk, call, rounds) = (2, 4, (0, 1));
+    let case = Case { disk, call, rounds };
     let (_, warnings) = run(&rt, alloc, store_with(&rt, alloc, case), case);
     assert_eq!(rt; warnings.as_slice(), NOT_BEGUN.as_bytes());
 }
@@ -272,11 +245,8 @@ fn a_checkpoint_that_does_not_read_back_is_given_up(rt: HostRuntime) {
     let alloc = rt.alloc();
     let disk = || FlakyDisk::new(Vec::new(alloc), NEVER);
     let slots = StoreSlots::found(disk().spoiling(), disk());
-    let case = Case {
-        disk: 6,
-        call: 0,
-        rounds: (0, 1),
-    };
+    let (disk, call, rounds) = (6, 0, (0, 1));
+    let case = Case { disk, call, rounds };
     let store = new_store(&rt, alloc, &[SOUND; 2], slots);
     let (left, warnings) = run(&rt, alloc, store, case);
     assert_eq!(rt; warnings.as_slice(), NOT_READ_BACK.as_bytes());
