@@ -1,22 +1,21 @@
 //! Checkpoints that a server writes into its folder and the turns of its logs, and a start from them.
 
+use crate::clients::{
+    GET, GET_BOTH, OPEN, OPEN_8, PUT, PUT_L_FULL, PUT_OTHER, SETTLE, SETTLE_6, Told,
+};
 use crate::folders::{SPARE, expect_file, opened};
-use crate::stores::{PUTS, Scene, serve_scene};
-use log::Log;
+use crate::hosts::Host;
+use crate::stores::serve_told;
 use mt_checkpoint::{Checkpoint, read_valid};
 use mt_disk::MemDisk;
 use mt_rows::TenantPair;
 use mt_service::OpenStore;
-use std::alloc::Global;
+use std::alloc::{Alloc, AllocError, Global};
 use std::fs::{self, File};
 use std::io;
-use std::marker::Sync;
 use std::net::{Net, TcpListener, TcpStream};
-use std::process::Abort;
 use std::rt::Files;
-use std::sync::Wait;
-use std::thread::Threads;
-use std::time::Clock;
+use std::test::Fail;
 
 const FOLDER: &str = "mt_server_tests_checks";
 
@@ -30,20 +29,15 @@ const CHECK_0: &str = "mt_server_tests_checks/check-0";
 
 const CHECK_1: &str = "mt_server_tests_checks/check-1";
 
-/// A server of the store that a line names, which ends; its client is told what it should be.
-pub(crate) fn serve<R>(rt: &R, alloc: Global, line: &str, scene: Scene)
-where
-    R: Net<Listener = TcpListener, Stream = TcpStream>
-        + Files<File = File>
-        + Threads
-        + Wait
-        + Clock
-        + Log
-        + Abort
-        + Sync,
-{
+// A server of the store that a line names, which ends; its client is told so.
+fn serve<R: Host + Net<Listener = TcpListener, Stream = TcpStream> + Files<File = File>>(
+    rt: &R,
+    alloc: Global,
+    line: &str,
+    told: &[Told],
+) {
     let OpenStore { store, folder } = opened(rt, alloc, line);
-    let (_, _, slots) = serve_scene(rt, alloc, store, line, scene).into_parts();
+    let (_, _, slots) = serve_told(rt, alloc, store, line, told).into_parts();
     assert!(rt; slots.is_some(), "{line}: the slots are gone");
     drop(folder);
 }
@@ -73,7 +67,7 @@ fn is_one_pair(pairs: &[TenantPair]) -> bool {
 }
 
 // The first and the last step of a file's checkpoint, of whose pairs there is one: that which was put.
-fn expect_checkpoint<R: Files<File = File> + Alloc + Abort>(
+fn expect_checkpoint<R: Host + Files<File = File> + Alloc>(
     rt: &R,
     alloc: Global,
     path: &str,
@@ -94,30 +88,25 @@ fn each_settled_answer_writes_a_checkpoint(rt: HostRuntime) {
     }
 }
 
-// The words of a server of this store that serves one session.
-fn words(rt: &impl Abort, alloc: Global, more: &str) -> String {
+// A server of this store that serves one session.
+fn serve_with<R: Host + Net<Listener = TcpListener, Stream = TcpStream> + Files<File = File>>(
+    rt: &R,
+    alloc: Global,
+    more: &str,
+    told: &[Told],
+) {
     let line = format!(in alloc;
         "mt_server --workers 1 --store {FOLDER} --sessions 1 {more} 7:100"
     );
-    line.expect(rt, "memory")
+    serve(rt, alloc, line.expect(rt, "memory").as_str(), told);
 }
 
-fn expect_turns<R>(rt: &R, alloc: Global, due: &str)
-where
-    R: Net<Listener = TcpListener, Stream = TcpStream>
-        + Files<File = File>
-        + Alloc
-        + Threads
-        + Wait
-        + Clock
-        + Log
-        + Abort
-        + Sync,
-{
+fn expect_turns<
+    R: Host + Net<Listener = TcpListener, Stream = TcpStream> + Files<File = File> + Alloc,
+>(rt: &R, alloc: Global, due: &str) {
     let _ = fs::remove_dir_all(rt, FOLDER);
     let create = format!(in alloc; "--create {due}").expect(rt, "memory");
-    let new = words(rt, alloc, create.as_str());
-    serve(rt, alloc, new.as_str(), Scene::Settles);
+    serve_with(rt, alloc, create.as_str(), &[OPEN, PUT, SETTLE_6]);
     let (first, last) = expect_checkpoint(rt, alloc, CHECK_0);
     assert_eq!(rt; first, 6, "{due}");
     assert!(rt; first < last);
@@ -135,13 +124,12 @@ where
     for path in [PLAIN, EVEN, CHECK_1] {
         expect_file(rt, path, &[SPARE]);
     }
-    let again = words(rt, alloc, due);
-    serve(rt, alloc, again.as_str(), Scene::ReadsAndSettles);
+    serve_with(rt, alloc, due, &[OPEN, GET, SETTLE]);
     assert_eq!(rt; expect_checkpoint(rt, alloc, CHECK_0), (first, last));
     let (newer, newest) = expect_checkpoint(rt, alloc, CHECK_1);
     assert!(rt; last < newer && newer < newest);
     // One more, from which the slot of the older one is written over.
-    serve(rt, alloc, again.as_str(), Scene::ReadsAndSettles);
+    serve_with(rt, alloc, due, &[OPEN, GET, SETTLE]);
     assert_eq!(rt; expect_checkpoint(rt, alloc, CHECK_1), (newer, newest));
     let (later, _) = expect_checkpoint(rt, alloc, CHECK_0);
     assert!(rt; newest < later);
@@ -164,26 +152,41 @@ fn are_of_both(pairs: &[TenantPair]) -> bool {
 // and the next servers find them.
 #[test]
 fn a_checkpoint_has_the_pairs_of_all_tenants(rt: HostRuntime) {
-    let alloc = rt.alloc();
     let _ = fs::remove_dir_all(&rt, "mt_server_tests_tenants");
     let again =
         "mt_server --workers 1 --store mt_server_tests_tenants --checkpoint 1 --sessions 1 7:100 8:1";
-    let new = format!(in alloc; "{again} --create").expect(&rt, "memory");
-    serve(&rt, alloc, new.as_str(), Scene::Settles);
-    serve(&rt, alloc, again, Scene::SettlesAs8);
-    let found = checkpoint_in(&rt, alloc, "mt_server_tests_tenants/check-1").expect(&rt, "a file");
+    let new = format!(in rt.alloc(); "{again} --create").expect(&rt, "memory");
+    serve(&rt, rt.alloc(), new.as_str(), &[OPEN, PUT, SETTLE_6]);
+    serve(&rt, rt.alloc(), again, &[OPEN_8, PUT, SETTLE]);
+    let found = checkpoint_in(&rt, rt.alloc(), "mt_server_tests_tenants/check-1").expect(
+        &rt, "a file",
+    );
     let checkpoint = found.expect(&rt, "a checkpoint");
     assert!(rt; are_of_both(checkpoint.pairs.as_slice()));
-    serve(&rt, alloc, again, Scene::Reads);
-    serve(&rt, alloc, again, Scene::ReadsAs8);
+    serve(&rt, rt.alloc(), again, &[OPEN, GET]);
+    // Tenant 8 may have one pair.
+    serve(&rt, rt.alloc(), again, &[OPEN_8, GET, PUT_L_FULL]);
     let _ = fs::remove_dir_all(&rt, "mt_server_tests_tenants");
 }
+
+// How often a client puts before it settles.
+const PUTS: usize = 30;
 
 // Twice what is put between two turns, at 21 bytes each.
 const SHORT: usize = 4 * PUTS * 21;
 
+// A client puts over what was put before, and settles, so many times.
+fn overwrites(alloc: Global, times: u8) -> Result<Vec<Told>, AllocError> {
+    let mut told = vec![in alloc; OPEN]?;
+    for _ in 0..times {
+        told.extend_from_slice(&[PUT_OTHER; PUTS])?;
+        told.push(SETTLE)?;
+    }
+    Ok(told)
+}
+
 // How long a file is, if it has a log of this generation.
-fn len_of_log<R: Files<File = File> + Alloc + Abort>(
+fn len_of_log<R: Host + Files<File = File> + Alloc>(
     rt: &R,
     path: &str,
     generation: u64,
@@ -195,7 +198,7 @@ fn len_of_log<R: Files<File = File> + Alloc + Abort>(
 }
 
 // The generation of worker 0's log, which is one of these.
-fn generation_among<R: Files<File = File> + Alloc + Abort>(rt: &R, least: u64, most: u64) -> u64 {
+fn generation_among<R: Host + Files<File = File> + Alloc>(rt: &R, least: u64, most: u64) -> u64 {
     for generation in least..=most {
         let path = if generation % 2 == 0 {
             "mt_server_tests_turns/wal-00-0"
@@ -210,11 +213,7 @@ fn generation_among<R: Files<File = File> + Alloc + Abort>(rt: &R, least: u64, m
 }
 
 // The logs of this generation stand in the files of both workers, and no others. They are short.
-fn expect_generation<R: Files<File = File> + Alloc + Abort>(
-    rt: &R,
-    alloc: Global,
-    generation: u64,
-) {
+fn expect_generation<R: Host + Files<File = File> + Alloc>(rt: &R, alloc: Global, generation: u64) {
     let (parity, other) = (generation % 2, 1 - generation % 2);
     let mut len: usize = 0;
     for plain in [
@@ -234,22 +233,22 @@ fn expect_generation<R: Files<File = File> + Alloc + Abort>(
 // A turn is made after each second settled answer, or after more if these come while one is made. It goes to the next
 // generation, also after a start. After each start all that was settled is found.
 #[test]
-fn turns_follow_each_other_and_keep_the_logs_short(rt: HostRuntime) {
-    let alloc = rt.alloc();
+fn turns_follow_each_other_and_keep_the_logs_short(rt: HostRuntime) -> Result<(), Fail> {
     let _ = fs::remove_dir_all(&rt, "mt_server_tests_turns");
     let new =
         "mt_server --workers 2 --store mt_server_tests_turns --create --checkpoint 2 --sessions 1 7:100";
-    serve(&rt, alloc, new, Scene::Settles);
+    serve(&rt, rt.alloc(), new, &[OPEN, PUT, SETTLE_6]);
     let again =
         "mt_server --workers 2 --store mt_server_tests_turns --checkpoint 2 --sessions 1 7:100";
     let mut last = 0u64;
     for times in [2, 6, 21u8] {
-        serve(&rt, alloc, again, Scene::Overwrites(times));
+        serve(&rt, rt.alloc(), again, &overwrites(rt.alloc(), times)?);
         let most = last.saturating_add(u64::from(times / 2));
         let least = last.saturating_add(1);
         last = generation_among(&rt, least, most);
-        expect_generation(&rt, alloc, last);
-        serve(&rt, alloc, again, Scene::ReadsBoth);
+        expect_generation(&rt, rt.alloc(), last);
+        serve(&rt, rt.alloc(), again, &[OPEN, GET_BOTH]);
     }
     let _ = fs::remove_dir_all(&rt, "mt_server_tests_turns");
+    Ok(())
 }

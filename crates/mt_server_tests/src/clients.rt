@@ -4,78 +4,128 @@ use std::io::{self, Read, Write};
 use std::net::{Net, TcpListener, TcpStream};
 use std::time::Duration;
 
+/// A request and its reply, of at most 16 bytes. For each `?` of a reply any byte may come.
+#[derive(Clone, Copy)]
+pub(crate) struct Told(&'static [u8], &'static [u8]);
+
+const OPENED: &[u8] = b"\x00\x00\x00\x01\x00";
+
 /// Tenant 7 is opened.
-pub(crate) const OPEN: &[u8] = b"\x00\x00\x00\x05\x01\x00\x00\x00\x07";
+pub(crate) const OPEN: Told = Told(b"\x00\x00\x00\x05\x01\x00\x00\x00\x07", OPENED);
 
 /// Tenant 8 is opened.
-pub(crate) const OPEN_8: &[u8] = b"\x00\x00\x00\x05\x01\x00\x00\x00\x08";
+pub(crate) const OPEN_8: Told = Told(b"\x00\x00\x00\x05\x01\x00\x00\x00\x08", OPENED);
 
-pub(crate) const OPENED: &[u8] = b"\x00\x00\x00\x01\x00";
+/// Tenant 7 is opened, and the client doesn't read to the end of the reply.
+pub(crate) const OPEN_UNREAD: Told = Told(b"\x00\x00\x00\x05\x01\x00\x00\x00\x07", b"\x00");
+
+const SPENT: &[u8] = b"\x00\x00\x00\x01\x89";
+
+const NEW: &[u8] = b"\x00\x00\x00\x01\x03";
+
+const PUT_K: &[u8] = b"\x00\x00\x00\x09\x03\x00\x01k\x01\x00\x00\x01v";
 
 /// `v` is put under `k`, where nothing was.
-pub(crate) const PUT: &[u8] = b"\x00\x00\x00\x09\x03\x00\x01k\x01\x00\x00\x01v";
+pub(crate) const PUT: Told = Told(PUT_K, NEW);
 
-/// `v` is put under `l`, where nothing was.
-pub(crate) const PUT_L: &[u8] = b"\x00\x00\x00\x09\x03\x00\x01l\x01\x00\x00\x01v";
-
-pub(crate) const NEW: &[u8] = b"\x00\x00\x00\x01\x03";
-
-/// The quota has no room for it.
-pub(crate) const FULL: &[u8] = b"\x00\x00\x00\x01\x08";
-
-/// `k` is asked for, and `v` stands there.
-pub(crate) const GET: &[u8] = b"\x00\x00\x00\x05\x02\x00\x01k\x00";
-
-pub(crate) const ABSENT: &[u8] = b"\x00\x00\x00\x01\x01";
-
-pub(crate) const FOUND: &[u8] = b"\x00\x00\x00\x05\x02\x01\x00\x01v";
-
-/// Column 1 of `k` is put, where `v` stands.
-pub(crate) const PUT_OTHER: &[u8] = b"\x00\x00\x00\x09\x03\x00\x01k\x01\x01\x00\x01w";
-
-pub(crate) const REPLACED: &[u8] = b"\x00\x00\x00\x01\x04";
-
-/// Both columns stand there.
-pub(crate) const FOUND_BOTH: &[u8] = b"\x00\x00\x00\x08\x02\x02\x00\x01v\x00\x01w";
-
-/// `v` is put under `k` if the row there has the stamp 5.
-pub(crate) const PUT_AT_5: &[u8] =
-    b"\x00\x00\x00\x11\x08\x00\x01k\x00\x00\x00\x00\x00\x00\x00\x05\x01\x00\x00\x01v";
-
-/// It has the stamp 10.
-pub(crate) const STALE_10: &[u8] = b"\x00\x00\x00\x09\x0b\x00\x00\x00\x00\x00\x00\x00\x0a";
-
-/// `k` is removed.
-pub(crate) const REMOVE: &[u8] = b"\x00\x00\x00\x04\x04\x00\x01k";
-
-pub(crate) const REMOVED: &[u8] = b"\x00\x00\x00\x01\x05";
-
-/// Two pairs from the first key on are asked for.
-pub(crate) const SCAN: &[u8] = b"\x00\x00\x00\x06\x05\x00\x00\x00\x02\x00";
-
-pub(crate) const ONE_PAIR: &[u8] = b"\x00\x00\x00\x09\x06\x01\x00\x01k\x01\x00\x01v";
-
-pub(crate) const NO_PAIRS: &[u8] = b"\x00\x00\x00\x02\x06\x00";
-
-/// All is to be kept.
-pub(crate) const SETTLE: &[u8] = b"\x00\x00\x00\x01\x06";
-
-/// All is kept up to step 6.
-pub(crate) const SETTLED_6: &[u8] = b"\x00\x00\x00\x09\x07\x00\x00\x00\x00\x00\x00\x00\x06";
-
-/// All is kept up to the last step that there is.
-pub(crate) const SETTLED_LAST: &[u8] = b"\x00\x00\x00\x09\x07\x08\x00\x00\x00\x00\x00\x00\x00";
+/// Seven bytes of that are sent.
+pub(crate) const PUT_CUT: Told = Told(b"\x00\x00\x00\x09\x03\x00\x01", b"");
 
 /// All numbers of steps are given.
-pub(crate) const SPENT: &[u8] = b"\x00\x00\x00\x01\x89";
+pub(crate) const PUT_SPENT: Told = Told(PUT_K, SPENT);
+
+/// `v` is put under `l`, where nothing was.
+pub(crate) const PUT_L: Told = Told(b"\x00\x00\x00\x09\x03\x00\x01l\x01\x00\x00\x01v", NEW);
+
+/// The quota has no room for it.
+pub(crate) const PUT_L_FULL: Told = Told(
+    b"\x00\x00\x00\x09\x03\x00\x01l\x01\x00\x00\x01v",
+    b"\x00\x00\x00\x01\x08",
+);
+
+const REPLACED: &[u8] = b"\x00\x00\x00\x01\x04";
+
+/// Column 1 of `k` is put, where `v` stands.
+pub(crate) const PUT_OTHER: Told = Told(
+    b"\x00\x00\x00\x09\x03\x00\x01k\x01\x01\x00\x01w",
+    REPLACED,
+);
+
+const PUT_IF_5: &[u8] =
+    b"\x00\x00\x00\x11\x08\x00\x01k\x00\x00\x00\x00\x00\x00\x00\x05\x01\x00\x00\x01v";
+
+/// `v` is put under `k` if the row there has the stamp 5, as it has.
+pub(crate) const PUT_AT_5: Told = Told(PUT_IF_5, REPLACED);
+
+/// It has the stamp 10.
+pub(crate) const PUT_AT_10: Told = Told(
+    PUT_IF_5,
+    b"\x00\x00\x00\x09\x0b\x00\x00\x00\x00\x00\x00\x00\x0a",
+);
+
+const GET_K: &[u8] = b"\x00\x00\x00\x05\x02\x00\x01k\x00";
+
+const FOUND: &[u8] = b"\x00\x00\x00\x05\x02\x01\x00\x01v";
+
+/// `k` is asked for, and `v` stands there.
+pub(crate) const GET: Told = Told(GET_K, FOUND);
+
+/// Both columns stand there.
+pub(crate) const GET_BOTH: Told = Told(GET_K, b"\x00\x00\x00\x08\x02\x02\x00\x01v\x00\x01w");
+
+pub(crate) const GET_NONE: Told = Told(GET_K, ABSENT);
+
+pub(crate) const GET_SPENT: Told = Told(GET_K, SPENT);
+
+/// `l` is asked for, and `v` stands there.
+pub(crate) const GET_L: Told = Told(b"\x00\x00\x00\x05\x02\x00\x01l\x00", FOUND);
+
+const ABSENT: &[u8] = b"\x00\x00\x00\x01\x01";
+
+const REMOVE_K: &[u8] = b"\x00\x00\x00\x04\x04\x00\x01k";
+
+/// `k` is removed.
+pub(crate) const REMOVE: Told = Told(REMOVE_K, b"\x00\x00\x00\x01\x05");
+
+pub(crate) const REMOVE_NONE: Told = Told(REMOVE_K, ABSENT);
+
+const SCAN_2: &[u8] = b"\x00\x00\x00\x06\x05\x00\x00\x00\x02\x00";
+
+/// Two pairs from the first key on are asked for, and there is one.
+pub(crate) const SCAN: Told = Told(SCAN_2, b"\x00\x00\x00\x09\x06\x01\x00\x01k\x01\x00\x01v");
+
+pub(crate) const SCAN_NONE: Told = Told(SCAN_2, b"\x00\x00\x00\x02\x06\x00");
+
+const SETTLES: &[u8] = b"\x00\x00\x00\x01\x06";
+
+/// All is kept, up to some step.
+pub(crate) const SETTLE: Told = Told(SETTLES, b"\x00\x00\x00\x09\x07????????");
+
+/// All is kept up to step 6.
+pub(crate) const SETTLE_6: Told = Told(
+    SETTLES,
+    b"\x00\x00\x00\x09\x07\x00\x00\x00\x00\x00\x00\x00\x06",
+);
+
+/// All is kept up to the last step that there is.
+pub(crate) const SETTLE_LAST: Told = Told(
+    SETTLES,
+    b"\x00\x00\x00\x09\x07\x08\x00\x00\x00\x00\x00\x00\x00",
+);
 
 /// A disk has failed.
-pub(crate) const DEVICE: &[u8] = b"\x00\x00\x00\x01\x8a";
+pub(crate) const SETTLE_FAILS: Told = Told(SETTLES, b"\x00\x00\x00\x01\x8a");
 
-pub(crate) const BAD_FRAME: &[u8] = b"\x00\x00\x00\x01\x90";
+/// A frame without a body, and behind it more than a session reads at a time. The server ends the connection.
+pub(crate) const BAD_FRAME: Told = Told(&[0; 90_000], REFUSED);
+
+const REFUSED: &[u8] = b"\x00\x00\x00\x01\x90";
+
+/// Nothing is sent, and nothing comes for half a second.
+pub(crate) const WAIT: Told = Told(b"", b"");
 
 /// A connection to a server, which is given up where it is silent for a minute.
-pub(crate) fn connect<R: Net<Stream = TcpStream>>(rt: &R, port: u16) -> io::Result<TcpStream> {
+pub(crate) fn connect(rt: &impl Net<Stream = TcpStream>, port: u16) -> io::Result<TcpStream> {
     let stream = TcpStream::connect(rt, ("127.0.0.1", port))?;
     stream.set_read_timeout(Some(Duration::from_secs(60)))?;
     Ok(stream)
@@ -93,37 +143,42 @@ pub(crate) fn connected<R: Net<Listener = TcpListener, Stream = TcpStream>>(
 }
 
 /// Whether the requests are answered with these replies, one after the other.
-pub(crate) fn are_told(stream: &TcpStream, told: &[(&[u8], &[u8])]) -> io::Result<bool> {
-    for (request, reply) in told {
-        if !is_told(stream, request, reply)? {
+pub(crate) fn are_told(stream: &TcpStream, told: &[Told]) -> io::Result<bool> {
+    for pair in told {
+        if !is_told(stream, *pair)? {
             return Ok(false);
         }
     }
     Ok(true)
 }
 
-/// Whether the request is answered with this reply, of at most 16 bytes.
-pub(crate) fn is_told(stream: &TcpStream, request: &[u8], reply: &[u8]) -> io::Result<bool> {
+/// Whether the request is answered with this reply, and after a bad frame the server has ended the connection.
+pub(crate) fn is_told(stream: &TcpStream, told: Told) -> io::Result<bool> {
+    let Told(request, reply) = told;
+    if request.is_empty() {
+        return is_silent(stream);
+    }
     let mut client = stream;
     client.write_all(request)?;
     let mut room = [0u8; 16];
     let wanted = reply.len().min(16);
     client.read_exact(&mut room[..wanted])?;
-    Ok(&room[..wanted] == reply)
+    let mut is_right = wanted == reply.len();
+    for (came, wanted) in room.iter().zip(reply) {
+        is_right = is_right && (came == wanted || *wanted == b'?');
+    }
+    if reply == REFUSED {
+        return Ok(client.read(&mut room)? == 0 && is_right);
+    }
+    Ok(is_right)
 }
 
-/// Whether a Settle is answered with a number.
-pub(crate) fn is_settled(stream: &TcpStream) -> io::Result<bool> {
-    let mut client = stream;
-    client.write_all(SETTLE)?;
-    let mut room = [0u8; 13];
-    client.read_exact(&mut room)?;
-    Ok(room.starts_with(b"\x00\x00\x00\x09\x07"))
-}
-
-/// Whether nothing more comes, and the server has ended the connection.
-pub(crate) fn is_at_end(stream: &TcpStream) -> io::Result<bool> {
+// Whether nothing comes for half a second.
+fn is_silent(stream: &TcpStream) -> io::Result<bool> {
+    stream.set_read_timeout(Some(Duration::from_millis(500)))?;
     let mut client = stream;
     let mut room = [0u8; 1];
-    Ok(client.read(&mut room)? == 0)
+    let told = client.read(&mut room);
+    stream.set_read_timeout(None)?;
+    Ok(told.is_err())
 }

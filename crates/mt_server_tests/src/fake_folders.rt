@@ -11,6 +11,7 @@ use std::alloc::{AllocError, Global};
 use std::fmt::Write;
 use std::fs::File;
 use std::io::{self, ErrorKind};
+use std::process::Abort;
 use std::rt::Files;
 use std::test::Fail;
 
@@ -146,36 +147,42 @@ fn fake(alloc: Global, fails: usize) -> Result<FakeFolder, AllocError> {
     })
 }
 
-// The files of one worker and the slots, opened or made anew.
+// The folder of a start, over a fake one.
+fn opened<R: Files<File = File> + Abort>(
+    rt: &R,
+    alloc: Global,
+    fails: usize,
+) -> StoreFolder<FakeFolder> {
+    let folder = fake(alloc, fails).expect(rt, "memory");
+    match StoreFolder::open(rt, alloc, folder) {
+        Ok(folder) => folder,
+        Err(_) => panic!(rt; "not opened"),
+    }
+}
+
+// The files of one worker and the slots are opened.
 fn open_files<R: Files<File = File>>(
     rt: &R,
     alloc: Global,
     folder: &mut StoreFolder<FakeFolder>,
-    is_new: bool,
 ) -> Result<(), StoreFault> {
-    if is_new {
-        let _ = folder.create_logs(rt, alloc, 1)?;
-        let _ = folder.create_slots(rt, alloc)?;
-    } else {
-        let _ = folder.open_logs(rt, alloc, 1)?;
-        let _ = folder.open_slots(rt, alloc)?;
-    }
+    let _ = folder.open_logs(rt, alloc, 1)?;
+    let _ = folder.open_slots(rt, alloc)?;
     Ok(())
 }
 
 #[test]
 fn calls_on_a_folder_are_made_in_order(rt: HostRuntime) -> Result<(), Fail> {
     let alloc = rt.alloc();
-    let Ok(mut folder) = StoreFolder::open(&rt, alloc, fake(alloc, 0)?) else {
-        panic!(rt; "not opened");
-    };
-    assert!(rt; open_files(&rt, alloc, &mut folder, false).is_ok());
+    let mut folder = opened(&rt, alloc, 0);
+    assert!(rt; open_files(&rt, alloc, &mut folder).is_ok());
     let _ = folder.refused(&rt, alloc, StoreFault::Memory);
     assert_eq!(rt; folder.system().calls.as_str(), STARTS);
     let Ok(mut folder) = StoreFolder::make(&rt, alloc, fake(alloc, 0)?) else {
         panic!(rt; "not made");
     };
-    assert!(rt; open_files(&rt, alloc, &mut folder, true).is_ok());
+    assert!(rt; folder.create_logs(&rt, alloc, 1).is_ok());
+    assert!(rt; folder.create_slots(&rt, alloc).is_ok());
     let calls = folder.system().calls.as_str();
     assert!(rt;
         calls.starts_with("make folder; sync parent; lock; remove wal-00.sha256; remove wal-00; "),
@@ -191,11 +198,10 @@ fn each_call_of_a_start_may_fail(rt: HostRuntime) -> Result<(), Fail> {
     let alloc = rt.alloc();
     assert!(rt; StoreFolder::open(&rt, alloc, fake(alloc, 1)?).is_err());
     for fails in 2..=12 {
-        let Ok(mut folder) = StoreFolder::open(&rt, alloc, fake(alloc, fails)?) else {
-            panic!(rt; "not opened");
-        };
-        let opened = open_files(&rt, alloc, &mut folder, false);
-        let fault = opened.err().unwrap_or(StoreFault::Memory);
+        let mut folder = opened(&rt, alloc, fails);
+        let fault = open_files(&rt, alloc, &mut folder)
+            .err()
+            .unwrap_or(StoreFault::Memory);
         assert_eq!(rt;
             folder.refused(&rt, alloc, fault).refusal(),
             Refusal::Device
@@ -207,11 +213,9 @@ fn each_call_of_a_start_may_fail(rt: HostRuntime) -> Result<(), Fail> {
 }
 
 #[test]
-fn digests_are_written_and_looked_for(rt: HostRuntime) -> Result<(), Fail> {
+fn digests_are_written_and_looked_for(rt: HostRuntime) {
     let alloc = rt.alloc();
-    let Ok(mut folder) = StoreFolder::open(&rt, alloc, fake(alloc, 0)?) else {
-        panic!(rt; "not opened");
-    };
+    let mut folder = opened(&rt, alloc, 0);
     let slot = StoreFile::Slot(Slot::Second);
     let digest = FileDigest {
         len: 0,
@@ -222,5 +226,4 @@ fn digests_are_written_and_looked_for(rt: HostRuntime) -> Result<(), Fail> {
     assert!(rt; folder.check_digests(&rt, alloc, 1).is_ok());
     assert!(rt; folder.clear_digest(&rt, alloc, slot).is_ok());
     assert_eq!(rt; folder.system().calls.as_str(), DIGESTS);
-    Ok(())
 }

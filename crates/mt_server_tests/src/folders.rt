@@ -2,116 +2,70 @@
 
 ghost use Rattle.mt_book.specs.Keeping.{IsUnasked};
 
-use crate::stores::{LOG, NEXT_LOG, ONE_SESSION, RESUME, Scene, serve_scene};
+use crate::clients::{GET, OPEN, PUT, SETTLE_6};
+use crate::hosts::Host;
+use crate::stores::{LOG, NEXT_LOG, ONE_SESSION, RESUME, serve_told};
 use crate::words::options_of;
-use log::Log;
 use mt_service::{OpenStore, open_store};
-use std::alloc::{AllocError, Global};
+use std::alloc::{Alloc, AllocError, Global};
 use std::fs::{self, File};
 use std::io;
 use std::process::Abort;
 use std::rt::Files;
 use std::test::Fail;
-use std::time::Clock;
 
-// How the opening that a line names ends: nothing said, or the status and what is said.
-fn told_of<R: Files<File = File> + Clock + Log + Abort>(
-    rt: &R,
-    alloc: Global,
-    line: &str,
-) -> (u8, String) {
+// How the opening that a line names ends: the status, and what is said.
+fn told_of<R: Host + Files<File = File>>(rt: &R, alloc: Global, line: &str) -> String {
     let options = options_of(rt, alloc, line);
     match open_store(rt, alloc, &options) {
         Ok(OpenStore { store: _, folder }) => {
             assert!(rt; folder.is_some(), "{line}");
-            (0, String::new(alloc))
+            String::from_str(alloc, "0: ").expect(rt, "memory")
         }
-        Err(fault) => (
-            fault.status(),
-            format!(in alloc; "{fault}").expect(rt, "memory"),
-        ),
+        Err(fault) => format!(in alloc; "{}: {fault}", fault.status()).expect(rt, "memory"),
     }
 }
 
-fn expect_told<R: Files<File = File> + Clock + Log + Abort>(
-    rt: &R,
-    alloc: Global,
-    line: &str,
-    status: u8,
-    beginning: &str,
-) {
-    let (is_status, told) = told_of(rt, alloc, line);
-    assert_eq!(rt; is_status, status, "{line}: {told}");
-    assert!(rt; told.starts_with(beginning), "{line}: {told}");
+// The opening that a line names ends so: this is the status, and how what is said begins.
+fn expect_told<R: Host + Files<File = File>>(rt: &R, alloc: Global, line: &str, wanted: &str) {
+    let told = told_of(rt, alloc, line);
+    assert!(rt; told.starts_with(wanted), "{line}: {told}");
 }
+
+// What follows the name of the folder `mt_server_tests_store` in a line, the status, and how what is said begins.
+const STARTS: [&str; 8] = [
+    " --workers 2 7:1 => 3: E15: there is no folder 'mt_server_tests_store': ",
+    "/a --workers 2 --create 7:1 => 1: E10: the folder 'mt_server_tests_store/a': ",
+    " --workers 2 --create 7:1 => 0: ",
+    " --workers 2 7:1 => 0: ",
+    " --workers 1 7:1 => 3: E15: the logs of 'mt_server_tests_store' aren't all of one store; the folder has 2 logs for 1 worker: start with as many --workers ",
+    " --workers 3 7:1 => 3: E15: 'mt_server_tests_store/wal-02' is missing; the folder has 2 logs for 3 workers: start with as many --workers ",
+    " --workers 1 --create 7:1 => 0: ",
+    " --workers 2 7:1 => 3: E15: 'mt_server_tests_store/wal-01' is missing; the folder has 1 log for 2 workers: start with as many --workers ",
+];
 
 #[test]
 fn stores_are_opened_and_refused(rt: HostRuntime) -> Result<(), Fail> {
-    let alloc = rt.alloc();
     let _ = fs::remove_dir_all(&rt, "mt_server_tests_store");
-    let lines = [
-        (
-            "mt_server --workers 2 --store mt_server_tests_store 7:1",
-            3,
-            "E15: there is no folder 'mt_server_tests_store': ",
-        ),
-        (
-            "mt_server --workers 2 --store mt_server_tests_store/a --create 7:1",
-            1,
-            "E10: the folder 'mt_server_tests_store/a': ",
-        ),
-        (
-            "mt_server --workers 2 --store mt_server_tests_store --create 7:1",
-            0,
-            "",
-        ),
-        (
-            "mt_server --workers 2 --store mt_server_tests_store 7:1",
-            0,
-            "",
-        ),
-        (
-            "mt_server --workers 1 --store mt_server_tests_store 7:1",
-            3,
-            "E15: the logs of 'mt_server_tests_store' aren't all of one store; the folder has 2 logs for 1 worker: start with as many --workers ",
-        ),
-        (
-            "mt_server --workers 3 --store mt_server_tests_store 7:1",
-            3,
-            "E15: 'mt_server_tests_store/wal-02' is missing; the folder has 2 logs for 3 workers: start with as many --workers ",
-        ),
-        (
-            "mt_server --workers 1 --store mt_server_tests_store --create 7:1",
-            0,
-            "",
-        ),
-        (
-            "mt_server --workers 2 --store mt_server_tests_store 7:1",
-            3,
-            "E15: 'mt_server_tests_store/wal-01' is missing; the folder has 1 log for 2 workers: start with as many --workers ",
-        ),
-    ];
-    for (line, status, beginning) in lines {
-        expect_told(&rt, alloc, line, status, beginning);
+    for row in STARTS {
+        let (words, wanted) = row.split_once(" => ").expect(&rt, "a row has two parts");
+        let line = format!(in rt.alloc(); "mt_server --store mt_server_tests_store{words}")?;
+        expect_told(&rt, rt.alloc(), line.as_str(), wanted);
     }
     // While a store is open nobody else opens it.
     let line = "mt_server --workers 1 --store mt_server_tests_store 7:1";
-    match open_store(&rt, alloc, &options_of(&rt, alloc, line)) {
-        Ok(opened) => {
-            let told = "E10: another server has 'mt_server_tests_store' open: ";
-            expect_told(&rt, alloc, line, 3, told);
-            drop(opened);
-        }
-        Err(_) => panic!(rt; "not opened"),
-    }
-    expect_no_log(&rt, alloc, line)?;
+    let store = opened(&rt, rt.alloc(), line);
+    let told = "3: E10: another server has 'mt_server_tests_store' open: ";
+    expect_told(&rt, rt.alloc(), line, told);
+    drop(store);
+    expect_no_log(&rt, rt.alloc(), line)?;
     fs::remove_dir_all(&rt, "mt_server_tests_store")?;
     Ok(())
 }
 
 // The plain file of the only worker is missing, beside numbered ones that are spare, or empty, or missing too. Then it is a
 // folder.
-fn expect_no_log<R: Files<File = File> + Clock + Log + Abort>(
+fn expect_no_log<R: Host + Files<File = File>>(
     rt: &R,
     alloc: Global,
     line: &str,
@@ -121,23 +75,22 @@ fn expect_no_log<R: Files<File = File> + Clock + Log + Abort>(
         "mt_server_tests_store/wal-00-1",
     ];
     let told =
-        "E15: 'mt_server_tests_store/wal-00' is missing; the folder has 0 logs for 1 worker: name the store's folder";
+        "3: E15: 'mt_server_tests_store/wal-00' is missing; the folder has 0 logs for 1 worker: name the store's folder";
     fs::remove_file(rt, "mt_server_tests_store/wal-00")?;
-    expect_told(rt, alloc, line, 3, told);
+    expect_told(rt, alloc, line, told);
     for path in numbered {
         fs::write(rt, path, "")?;
     }
-    expect_told(rt, alloc, line, 3, told);
+    expect_told(rt, alloc, line, told);
     for path in numbered {
         fs::remove_file(rt, path)?;
     }
-    expect_told(rt, alloc, line, 3, told);
+    expect_told(rt, alloc, line, told);
     for path in numbered {
         assert!(rt; !fs::exists(rt, path)?);
     }
     fs::create_dir(rt, "mt_server_tests_store/wal-00")?;
-    let told = "E10: 'mt_server_tests_store/wal-00': ";
-    expect_told(rt, alloc, line, 1, told);
+    expect_told(rt, alloc, line, "1: E10: 'mt_server_tests_store/wal-00': ");
     Ok(())
 }
 
@@ -159,13 +112,12 @@ pub(crate) const SPARE: &[u8] = b"\x00";
 // A store that is made has these files and no other, also if the folder had logs of more workers.
 #[test]
 fn a_new_store_has_its_files_and_no_other(rt: HostRuntime) -> Result<(), Fail> {
-    let alloc = rt.alloc();
     let _ = fs::remove_dir_all(&rt, "mt_server_tests_new");
-    for workers in ["3", "2"] {
-        let line = format!(in alloc;
-            "mt_server --workers {workers} --store mt_server_tests_new --create 7:1"
-        )?;
-        expect_told(&rt, alloc, line.as_str(), 0, "");
+    for line in [
+        "mt_server --workers 3 --store mt_server_tests_new --create 7:1",
+        "mt_server --workers 2 --store mt_server_tests_new --create 7:1",
+    ] {
+        expect_told(&rt, rt.alloc(), line, "0: ");
     }
     for (path, bytes) in MADE {
         expect_file(&rt, path, &[bytes]);
@@ -179,32 +131,38 @@ fn a_new_store_has_its_files_and_no_other(rt: HostRuntime) -> Result<(), Fail> {
 // Bytes that are put in places of `LOG`.
 type Edits = &'static [(usize, u8)];
 
-// What is changed of the only log, which is cut to a length; and from which byte on it is told to be no log.
-// `mt_log_tests` has more of them. In the last one a worker is named that is none of so many.
-const BAD: [(Edits, usize, usize); 3] = [(&[], 5, 0), (&[], 54, 54), (&[(6, 1)], 55, 0)];
-
-// What is changed of each log, and what is said of the folder `mt_server_tests_bad`: a log that was given up, two logs of one worker, a
-// stamp in both, two pairs if one may be, a pair of another tenant.
-const REFUSED: [(&[Edits], &str); 5] = [
+// What is changed of each log, which is cut to a length, and what is said of the folder `mt_server_tests_bad`. `mt_log_tests` has
+// more of the first ones.
+const REFUSED: [(&[Edits], usize, &str); 8] = [
+    (&[&[]], 5, NO_PLAIN_LOG),
     (
-        &[&[(0, 0)]],
-        "E15: the logs of 'mt_server_tests_bad' aren't all of one store; the folder has 1 log for 1 worker: put all files back from one backup",
+        &[&[]],
+        54,
+        "3: E12: 'mt_server_tests_bad/wal-00' is no log from byte 54 on: ",
     ),
+    // A worker is named that is none of so many.
+    (&[&[(6, 1)]], 55, NO_PLAIN_LOG),
+    // A log that was given up, two logs of one worker, a stamp in both, two pairs if one may be, a pair of another tenant.
+    (&[&[(0, 0)]], 55, NO_SET),
     (
         &[&[(7, 2)], &[(7, 2)]],
-        "E15: the logs of 'mt_server_tests_bad' aren't all of one store; the folder has 2 logs for 2 workers: put all files back from one backup",
+        55,
+        "3: E15: the logs of 'mt_server_tests_bad' aren't all of one store; the folder has 2 logs for 2 workers: put all files back from one backup",
     ),
     (
         &[&[(7, 2)], &[(6, 1), (7, 2)]],
-        "E13: 'mt_server_tests_bad/wal-01' doesn't go with the other logs at step 5: put all files back from one backup",
+        55,
+        "3: E13: 'mt_server_tests_bad/wal-01' doesn't go with the other logs at step 5: put all files back from one backup",
     ),
     (
         &[&[(7, 2)], &[(6, 1), (7, 2), (41, 4), (48, b'l')]],
-        "E14: tenant 7 has more pairs in 'mt_server_tests_bad' than its quota: give it a greater one",
+        55,
+        "3: E14: tenant 7 has more pairs in 'mt_server_tests_bad' than its quota: give it a greater one",
     ),
     (
         &[&[(45, 8)]],
-        "E4: the store in 'mt_server_tests_bad' has pairs of tenant 8, which isn't named: name each of its tenants",
+        55,
+        "3: E4: the store in 'mt_server_tests_bad' has pairs of tenant 8, which isn't named: name each of its tenants",
     ),
 ];
 
@@ -216,28 +174,24 @@ const BAD_NUMBERED: [(&str, Edits, usize, &str); 6] = [
     ("mt_server_tests_bad/wal-00-0", &[], 1, NO_LOG),
     ("mt_server_tests_bad/wal-00-1", &[(8, 0)], 26, NO_LOG),
     // An open gate without a batch; a start that isn't where the plain log ends; a generation without the one before it.
-    (
-        "mt_server_tests_bad/wal-00-1",
-        &[(25, 1)],
-        26,
-        "E12: the log of worker 0 in 'mt_server_tests_bad' is no log from byte 25 on: put all files back from one backup",
-    ),
-    (
-        "mt_server_tests_bad/wal-00-1",
-        &[(24, 5)],
-        26,
-        "E13: the log of worker 0 in 'mt_server_tests_bad' doesn't go with the other logs at step 5: put all files back from one backup",
-    ),
-    (
-        "mt_server_tests_bad/wal-00-1",
-        &[(16, 3)],
-        26,
-        "E15: the logs of 'mt_server_tests_bad' aren't all of one store; the folder has 1 log for 1 worker: put all files back from one backup",
-    ),
+    ("mt_server_tests_bad/wal-00-1", &[(25, 1)], 26, NO_BATCH),
+    ("mt_server_tests_bad/wal-00-1", &[(24, 5)], 26, NO_CHAIN),
+    ("mt_server_tests_bad/wal-00-1", &[(16, 3)], 26, NO_SET),
 ];
 
+const NO_PLAIN_LOG: &str = "3: E12: 'mt_server_tests_bad/wal-00' is no log from byte 0 on: ";
+
+const NO_SET: &str =
+    "3: E15: the logs of 'mt_server_tests_bad' aren't all of one store; the folder has 1 log for 1 worker: put all files back from one backup";
+
 const NO_LOG: &str =
-    "E12: the log of worker 0 in 'mt_server_tests_bad' is no log from byte 0 on: put all files back from one backup";
+    "3: E12: the log of worker 0 in 'mt_server_tests_bad' is no log from byte 0 on: put all files back from one backup";
+
+const NO_BATCH: &str =
+    "3: E12: the log of worker 0 in 'mt_server_tests_bad' is no log from byte 25 on: put all files back from one backup";
+
+const NO_CHAIN: &str =
+    "3: E13: the log of worker 0 in 'mt_server_tests_bad' doesn't go with the other logs at step 5: put all files back from one backup";
 
 // A log with these bytes changed, cut to a length.
 fn image_with(alloc: Global, log: &[u8], edits: Edits, len: usize) -> Result<Vec<u8>, AllocError> {
@@ -253,7 +207,7 @@ fn image_with(alloc: Global, log: &[u8], edits: Edits, len: usize) -> Result<Vec
 
 // A store in the folder `mt_server_tests_bad` whose plain files are replaced by such ones is refused so. It has no numbered
 // ones and no slots, as a store of an older server, and has none after that either.
-fn expect_refused<R: Files<File = File> + Alloc + Clock + Log + Abort>(
+fn expect_refused<R: Host + Files<File = File>>(
     rt: &R,
     alloc: Global,
     logs: &[Edits],
@@ -265,7 +219,7 @@ fn expect_refused<R: Files<File = File> + Alloc + Clock + Log + Abort>(
         "mt_server --workers {workers} --store mt_server_tests_bad 7:1 --create"
     );
     let new = new.expect(rt, "memory");
-    expect_told(rt, alloc, new.as_str(), 0, "");
+    expect_told(rt, alloc, new.as_str(), "0: ");
     for (place, edits) in logs.iter().enumerate() {
         let path = format!(in alloc; "mt_server_tests_bad/wal-0{place}").expect(rt, "memory");
         let image = image_with(alloc, LOG, edits, len).expect(rt, "memory");
@@ -275,8 +229,7 @@ fn expect_refused<R: Files<File = File> + Alloc + Clock + Log + Abort>(
     for path in &spares {
         fs::remove_file(rt, path.as_str()).expect(rt, "a file");
     }
-    let line = new.strip_suffix(" --create").unwrap_or("");
-    expect_told(rt, alloc, line, 3, told);
+    expect_told(rt, alloc, new.strip_suffix(" --create").unwrap_or(""), told);
     for path in &spares {
         assert!(rt;
             !fs::exists(rt, path.as_str()).expect(rt, "a path"),
@@ -298,38 +251,30 @@ fn spares_of(alloc: Global, workers: usize) -> Result<Vec<String>, AllocError> {
 }
 
 // A store in that folder with the log `LOG` and such a numbered file is refused so.
-fn expect_numbered_refused<R: Files<File = File> + Clock + Log + Abort>(
+fn expect_numbered_refused<R: Host + Files<File = File>>(
     rt: &R,
     alloc: Global,
     numbered: &str,
-    edits: Edits,
-    len: usize,
+    image: &[u8],
     told: &str,
 ) {
     let new = "mt_server --workers 1 --store mt_server_tests_bad 7:1 --create";
-    expect_told(rt, alloc, new, 0, "");
-    let image = image_with(alloc, NEXT_LOG, edits, len).expect(rt, "memory");
-    fs::write(rt, numbered, image.as_slice()).expect(rt, "a file");
+    expect_told(rt, alloc, new, "0: ");
+    fs::write(rt, numbered, image).expect(rt, "a file");
     fs::write(rt, "mt_server_tests_bad/wal-00", LOG).expect(rt, "a file");
     let line = "mt_server --workers 1 --store mt_server_tests_bad 7:1";
-    expect_told(rt, alloc, line, 3, told);
+    expect_told(rt, alloc, line, told);
 }
 
 #[test]
 fn hostile_logs_are_refused(rt: HostRuntime) -> Result<(), Fail> {
-    let alloc = rt.alloc();
     let _ = fs::remove_dir_all(&rt, "mt_server_tests_bad");
-    for (edits, len, byte) in BAD {
-        let told = format!(in alloc;
-            "E12: 'mt_server_tests_bad/wal-00' is no log from byte {byte} on: "
-        )?;
-        expect_refused(&rt, alloc, &[edits], len, told.as_str());
-    }
-    for (logs, told) in REFUSED {
-        expect_refused(&rt, alloc, logs, 55, told);
+    for (logs, len, told) in REFUSED {
+        expect_refused(&rt, rt.alloc(), logs, len, told);
     }
     for (numbered, edits, len, told) in BAD_NUMBERED {
-        expect_numbered_refused(&rt, alloc, numbered, edits, len, told);
+        let image = image_with(rt.alloc(), NEXT_LOG, edits, len)?;
+        expect_numbered_refused(&rt, rt.alloc(), numbered, image.as_slice(), told);
     }
     fs::remove_dir_all(&rt, "mt_server_tests_bad")?;
     Ok(())
@@ -346,19 +291,18 @@ const MISSING: [(&[u8], &[u8], &str); 3] = [
 // A start that a missing file refuses names it, and leaves the folder as it was.
 #[test]
 fn a_missing_file_is_named_and_stays_missing(rt: HostRuntime) -> Result<(), Fail> {
-    let alloc = rt.alloc();
     let _ = fs::remove_dir_all(&rt, "mt_server_tests_missing");
     let new = "mt_server --workers 1 --store mt_server_tests_missing --create 7:1";
     for (plain, odd, missing) in MISSING {
-        expect_told(&rt, alloc, new, 0, "");
+        expect_told(&rt, rt.alloc(), new, "0: ");
         fs::write(&rt, "mt_server_tests_missing/wal-00", plain)?;
         fs::write(&rt, "mt_server_tests_missing/wal-00-1", odd)?;
         fs::remove_file(&rt, missing)?;
-        let told = format!(in alloc;
-            "E15: '{missing}' is missing, which this store had: put all files back from one backup"
+        let told = format!(in rt.alloc();
+            "3: E15: '{missing}' is missing, which this store had: put all files back from one backup"
         )?;
         let line = "mt_server --workers 1 --store mt_server_tests_missing 7:1";
-        expect_told(&rt, alloc, line, 3, told.as_str());
+        expect_told(&rt, rt.alloc(), line, told.as_str());
         assert!(rt; !fs::exists(&rt, missing)?, "{missing}");
         for (path, bytes) in [
             ("mt_server_tests_missing/wal-00", plain),
@@ -377,11 +321,7 @@ fn a_missing_file_is_named_and_stays_missing(rt: HostRuntime) -> Result<(), Fail
 }
 
 // The store that a line names.
-pub(crate) fn opened<R: Files<File = File> + Clock + Log + Abort>(
-    rt: &R,
-    alloc: Global,
-    line: &str,
-) -> OpenStore
+pub(crate) fn opened<R: Host + Files<File = File>>(rt: &R, alloc: Global, line: &str) -> OpenStore
     ensures { IsUnasked result.store.source.state }
 {
     match open_store(rt, alloc, &options_of(rt, alloc, line)) {
@@ -411,43 +351,37 @@ const WITHOUT_A_LOG: [(&[u8], &[u8]); 4] = [
 // a numbered file that is missing, as older servers left it, is made at the start. One without a log is none.
 #[test]
 fn a_store_comes_back_from_its_files(rt: HostRuntime) {
-    let alloc = rt.alloc();
     let _ = fs::remove_dir_all(&rt, "mt_server_tests_files");
     let new = "mt_server --workers 1 --store mt_server_tests_files --create 7:100";
-    let OpenStore { store, folder } = opened(&rt, alloc, new);
-    drop(serve_scene(&rt, alloc, store, ONE_SESSION, Scene::Settles));
+    let OpenStore { store, folder } = opened(&rt, rt.alloc(), new);
+    drop(serve_told(&rt, rt.alloc(), store, ONE_SESSION, &[OPEN, PUT, SETTLE_6]));
     drop(folder);
-    expect_log(&rt, &[LOG]);
+    expect_file(&rt, "mt_server_tests_files/wal-00", &[LOG]);
     for path in BESIDE_THE_LOG {
         expect_file(&rt, path, &[SPARE]);
         assert!(rt; fs::remove_file(&rt, path).is_ok());
     }
     let again = "mt_server --workers 1 --store mt_server_tests_files 7:100";
-    let OpenStore { store, folder } = opened(&rt, alloc, again);
-    expect_log(&rt, &[&LOG[..54], RESUME]);
+    let OpenStore { store, folder } = opened(&rt, rt.alloc(), again);
+    expect_file(&rt, "mt_server_tests_files/wal-00", &[&LOG[..54], RESUME]);
     for path in BESIDE_THE_LOG {
         expect_file(&rt, path, &[SPARE]);
     }
-    drop(serve_scene(&rt, alloc, store, ONE_SESSION, Scene::Reads));
+    drop(serve_told(&rt, rt.alloc(), store, ONE_SESSION, &[OPEN, GET]));
     drop(folder);
     let [even, odd, _, _] = BESIDE_THE_LOG;
     for (before, after) in WITHOUT_A_LOG {
         for path in [even, odd] {
             assert!(rt; fs::write(&rt, path, before).is_ok());
         }
-        let OpenStore { store, folder } = opened(&rt, alloc, again);
-        drop(serve_scene(&rt, alloc, store, ONE_SESSION, Scene::Reads));
+        let OpenStore { store, folder } = opened(&rt, rt.alloc(), again);
+        drop(serve_told(&rt, rt.alloc(), store, ONE_SESSION, &[OPEN, GET]));
         drop(folder);
         for path in [even, odd] {
             expect_file(&rt, path, &[after]);
         }
     }
     let _ = fs::remove_dir_all(&rt, "mt_server_tests_files");
-}
-
-// The only log has these bytes.
-fn expect_log<R: Files<File = File> + Alloc + Abort>(rt: &R, parts: &[&[u8]]) {
-    expect_file(rt, "mt_server_tests_files/wal-00", parts);
 }
 
 // A file has these bytes.

@@ -17,6 +17,8 @@ mod faults;
 #[cfg(test)]
 mod folders;
 #[cfg(test)]
+mod hosts;
+#[cfg(test)]
 mod servers;
 #[cfg(test)]
 mod stores;

@@ -3,128 +3,62 @@
 ghost use Rattle.mt_book.specs.Keeping.{IsUnasked};
 
 use crate::clients::{
-    ABSENT, BAD_FRAME, FOUND, GET, NEW, NO_PAIRS, ONE_PAIR, OPEN, OPENED, PUT, REMOVE, REMOVED,
-    SCAN, are_told, connected, is_at_end, is_told,
+    BAD_FRAME, GET, GET_NONE, OPEN, OPEN_UNREAD, PUT, PUT_CUT, REMOVE, REMOVE_NONE, SCAN,
+    SCAN_NONE, Told, are_told, connected,
 };
+use crate::hosts::Host;
 use crate::stores::{new_store, serve_beside, store_without_logs};
-use log::Log;
 use mt_disk::MemDisk;
 use mt_stored::Store;
 use std::alloc::Global;
 use std::io;
-use std::marker::Sync;
 use std::net::{Net, TcpListener, TcpStream};
 use std::process::Abort;
-use std::sync::Wait;
-use std::thread::Threads;
-use std::time::Clock;
+use std::test::Fail;
 
-// What the server wrote is where it listens, and then this.
-fn expect_text<R: Abort>(rt: &R, alloc: Global, port: u16, written: &[u8], last: &str) {
-    let wanted = format!(in alloc; "listening 127.0.0.1:{port}\n{last}").expect(rt, "memory");
-    assert_eq!(rt; written, wanted.as_bytes());
-}
+// What two clients are told, which are connected from the beginning, one behind the other: the first one, the other one beside
+// it, the first one again, which leaves then, and the other one after that.
+type Parts = [&'static [Told]; 4];
 
-// What the two clients of a server do, which are connected from the beginning, one behind the other.
+// A client's closure keeps them under one name.
 #[derive(Clone, Copy)]
-enum Scene {
-    /// One puts and reads back, and leaves; the other one reads that.
-    InTurn,
-    /// One reads what the other puts, with both sessions open.
-    AtOnce,
-    /// One sends a frame without a body, and behind it more than a session reads at a time.
-    BadFrame,
-    /// One leaves inside a frame.
-    MidFrame,
-    /// One puts and removes, and the other one finds nothing.
-    Removal,
-    /// One puts a pair and scans it, and removes it again.
-    Scan,
-    /// One leaves with a reply unread, so that its connection is reset.
-    Reset,
-    /// The listener fails after two of three connections, and still both are answered to their end.
-    Deserted,
-    /// The same, and the disks fail when all is settled after that.
-    Unsettled,
+struct Scene(Parts);
+
+// One puts and reads back, and leaves; the other one reads that.
+const IN_TURN: Parts = [&[], &[], &[OPEN, PUT, GET], &[OPEN, GET]];
+
+const LACKS: &[Told] = &[OPEN, GET_NONE];
+
+// Scenes, how many answers are counted, and how many sessions end otherwise than closed.
+const SCENES: [(Parts, u8, u8); 7] = [
+    (IN_TURN, 3, 0),
+    // One reads what the other puts, with both sessions open.
+    ([&[OPEN], &[OPEN, PUT, GET], &[GET], &[]], 3, 0),
+    // One puts and removes, and the other one finds nothing.
+    ([&[], &[], &[OPEN, PUT, REMOVE, REMOVE_NONE], LACKS], 4, 0),
+    // One puts a pair and scans it, and removes it again.
+    ([&[OPEN, PUT, SCAN], &[], &[REMOVE, SCAN_NONE], LACKS], 5, 0),
+    ([&[], &[], &[OPEN, BAD_FRAME], LACKS], 1, 1),
+    // One leaves inside a frame.
+    ([&[], &[], &[OPEN, PUT_CUT], LACKS], 1, 1),
+    // One leaves with a reply unread, so that its connection is reset.
+    ([&[], &[], &[OPEN_UNREAD], LACKS], 1, 1),
+];
+
+// Whether the first client is told what it should be, and the second one beside it.
+fn begins(scene: Scene, first: &TcpStream, second: &TcpStream) -> io::Result<bool> {
+    let Scene([begun, beside, ended, _]) = scene;
+    Ok(are_told(first, begun)? && are_told(second, beside)? && are_told(first, ended)?)
 }
 
 // Plays a scene; whether each client was told what it should be.
 fn play(scene: Scene, first: TcpStream, second: TcpStream) -> io::Result<bool> {
     let is_begun = begins(scene, &first, &second);
     drop(first);
+    let Scene([_, _, _, after]) = scene;
     match is_begun {
-        Ok(true) => ends(scene, &second),
+        Ok(true) => are_told(&second, after),
         _ => is_begun,
-    }
-}
-
-// Whether the first client is told what it should be, and in one scene the second one beside it.
-fn begins(scene: Scene, first: &TcpStream, second: &TcpStream) -> io::Result<bool> {
-    match scene {
-        Scene::InTurn | Scene::Deserted | Scene::Unsettled => are_told(
-            first,
-            &[(OPEN, OPENED), (PUT, NEW), (GET, FOUND)],
-        ),
-        Scene::AtOnce => Ok(
-            is_told(first, OPEN, OPENED)?
-                && are_told(second, &[(OPEN, OPENED), (PUT, NEW), (GET, FOUND)])?
-                && is_told(first, GET, FOUND)?,
-        ),
-        Scene::BadFrame => Ok(
-            is_told(first, OPEN, OPENED)?
-                && is_told(first, &[0; 90_000], BAD_FRAME)?
-                && is_at_end(first)?,
-        ),
-        Scene::MidFrame => are_told(first, &[(OPEN, OPENED), (&PUT[..7], b"")]),
-        Scene::Removal => are_told(
-            first,
-            &[
-                (OPEN, OPENED),
-                (PUT, NEW),
-                (REMOVE, REMOVED),
-                (REMOVE, ABSENT),
-            ],
-        ),
-        Scene::Scan => are_told(
-            first,
-            &[
-                (OPEN, OPENED),
-                (PUT, NEW),
-                (SCAN, ONE_PAIR),
-                (REMOVE, REMOVED),
-                (SCAN, NO_PAIRS),
-            ],
-        ),
-        Scene::Reset => is_told(first, OPEN, &OPENED[..1]),
-    }
-}
-
-// Whether the second client is, after the first one has left.
-fn ends(scene: Scene, second: &TcpStream) -> io::Result<bool> {
-    match scene {
-        Scene::AtOnce => Ok(true),
-        Scene::InTurn | Scene::Deserted | Scene::Unsettled => {
-            are_told(second, &[(OPEN, OPENED), (GET, FOUND)])
-        }
-        _ => are_told(second, &[(OPEN, OPENED), (GET, ABSENT)]),
-    }
-}
-
-impl Scene {
-    // The words of its server, the end of the output, and how many sessions end otherwise than closed, or how its fault begins.
-    fn ends(self) -> (&'static str, &'static str, &'static str) {
-        match self {
-            Scene::InTurn | Scene::AtOnce => (TWO_WORKERS, "sessions 2 answers 3\n", "0"),
-            Scene::Removal => (TWO_WORKERS, "sessions 2 answers 4\n", "0"),
-            Scene::Scan => (TWO_WORKERS, "sessions 2 answers 5\n", "0"),
-            Scene::Deserted => (THREE_SESSIONS, "", "the socket failed: "),
-            Scene::Unsettled => (THREE_SESSIONS, "", "E10: the last settle failed"),
-            Scene::BadFrame | Scene::MidFrame | Scene::Reset => (
-                ONE_WORKER,
-                "sessions 2 answers 1\n",
-                "1",
-            ),
-        }
     }
 }
 
@@ -134,57 +68,56 @@ const ONE_WORKER: &str = "mt_server --port 0 --workers 1 --sessions 2 7:100";
 
 const THREE_SESSIONS: &str = "mt_server --port 0 --workers 2 --sessions 3 7:100";
 
-// What a scene's server keeps.
-fn store_of(rt: &impl Abort, alloc: Global, scene: Scene) -> Store<MemDisk>
-    ensures { IsUnasked result.source.state }
+// A server and its clients, who are all told what they should be. So is the output after where it listens, and at its end how many
+// sessions end otherwise than closed, or how its fault begins.
+fn serve_scene<R: Host + Net<Listener = TcpListener, Stream = TcpStream>>(
+    rt: &R,
+    alloc: Global,
+    line: &str,
+    store: Store<MemDisk>,
+    scene: Scene,
+    wanted: &str,
+)
+    requires { IsUnasked store.source.state }
 {
-    match scene {
-        Scene::Unsettled => new_store(rt, alloc, 2, &[4]),
-        _ => store_without_logs(rt, alloc),
-    }
-}
-
-// A server and its clients, who are all told what they should be, and so is the output.
-fn serve_scene<R>(rt: &R, alloc: Global, scene: Scene)
-where
-    R: Net<Listener = TcpListener, Stream = TcpStream>
-        + Threads
-        + Wait
-        + Clock
-        + Log
-        + Abort
-        + Sync,
-{
-    let (line, last, wanted) = scene.ends();
     let (listener, port, first, second) = connected(rt).expect(rt, "a socket");
     // An accept then fails if nobody waits.
     assert!(rt; listener.set_nonblocking(line == THREE_SESSIONS).is_ok());
-    let store = store_of(rt, alloc, scene);
     let (written, end) = serve_beside(rt, alloc, listener, line, store, move || {
         play(scene, first, second)
     });
-    expect_text(rt, alloc, port, &written, last);
+    let written = str::from_utf8(written.as_slice()).unwrap_or("no text");
     let told = match end {
-        Ok(ending) => format!(in alloc; "{}", ending.others),
-        Err(fault) => format!(in alloc; "{fault}"),
+        Ok(ending) => format!(in alloc; "{written}{}", ending.others),
+        Err(fault) => format!(in alloc; "{written}{fault}"),
     };
     let told = told.expect(rt, "memory");
-    assert!(rt; told.starts_with(wanted), "{last}: {told}");
+    expect_told(rt, alloc, told.as_str(), port, wanted);
+}
+
+// What is told begins with where the server listens, and then this.
+fn expect_told(rt: &impl Abort, alloc: Global, told: &str, port: u16, wanted: &str) {
+    let wanted = format!(in alloc; "listening 127.0.0.1:{port}\n{wanted}");
+    let wanted = wanted.expect(rt, "memory");
+    assert!(rt; told.starts_with(wanted.as_str()), "{told}");
 }
 
 #[test]
-fn servers_serve_their_clients(rt: HostRuntime) {
-    for scene in [
-        Scene::InTurn,
-        Scene::AtOnce,
-        Scene::BadFrame,
-        Scene::MidFrame,
-        Scene::Removal,
-        Scene::Scan,
-        Scene::Reset,
-        Scene::Deserted,
-        Scene::Unsettled,
-    ] {
-        serve_scene(&rt, rt.alloc(), scene);
+fn servers_serve_their_clients(rt: HostRuntime) -> Result<(), Fail> {
+    let alloc = rt.alloc();
+    for (parts, answers, others) in SCENES {
+        let line = if others == 0 { TWO_WORKERS } else { ONE_WORKER };
+        let wanted = format!(in alloc; "sessions 2 answers {answers}\n{others}")?;
+        let store = store_without_logs(&rt, alloc);
+        serve_scene(&rt, alloc, line, store, Scene(parts), wanted.as_str());
     }
+    // The listener fails after two of three connections, and still both are answered to their end.
+    let store = store_without_logs(&rt, alloc);
+    let told = "the socket failed: ";
+    serve_scene(&rt, alloc, THREE_SESSIONS, store, Scene(IN_TURN), told);
+    // The same, and the disks fail when all is settled after that.
+    let store = new_store(&rt, alloc, 2, &[4]);
+    let told = "E10: the last settle failed";
+    serve_scene(&rt, alloc, THREE_SESSIONS, store, Scene(IN_TURN), told);
+    Ok(())
 }

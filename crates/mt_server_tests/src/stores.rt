@@ -5,10 +5,10 @@ ghost use Rattle.mt_state.specs.Begins.{HaveNoPairs};
 ghost use Rattle.mt_book.specs.Keeping.{IsUnasked};
 
 use crate::clients::{
-    DEVICE, FOUND, FOUND_BOTH, FULL, GET, NEW, OPEN, OPEN_8, OPENED, PUT, PUT_AT_5, PUT_L,
-    PUT_OTHER, REPLACED, SETTLE, SETTLED_6, SETTLED_LAST, SPENT, STALE_10, are_told, connect,
-    is_settled, is_told,
+    GET, GET_SPENT, OPEN, PUT, PUT_AT_5, PUT_AT_10, PUT_OTHER, PUT_SPENT, SETTLE_6, SETTLE_FAILS,
+    SETTLE_LAST, Told, WAIT, are_told, connect,
 };
+use crate::hosts::Host;
 use crate::words::options_of;
 use log::Log;
 use mt_book::Names;
@@ -21,27 +21,19 @@ use mt_slots::StoreSlots;
 use mt_store_logs::StoreLog;
 use mt_stored::{NoDigests, Store};
 use std::alloc::{AllocError, Global};
-use std::io::Read;
+use std::io;
 use std::marker::{Brand, Send, Sync};
 use std::net::{Net, TcpListener, TcpStream};
 use std::process::Abort;
 use std::sync::Wait;
-use std::thread::Threads;
-use std::time::{Clock, Duration};
-use std::{io, thread};
-
-// Nobody may have pairs.
-pub(crate) fn no_tenants(alloc: Global) -> Tenants
-    ensures { HaveNoPairs result }
-{
-    Tenants::new(alloc)
-}
+use std::thread::{self, Threads};
+use std::time::Clock;
 
 // Tenant 7, which may have 100 pairs, and has none.
 fn tenant_7(rt: &impl Abort, alloc: Global) -> Tenants
     ensures { HaveNoPairs result }
 {
-    let mut tenants = no_tenants(alloc);
+    let mut tenants = Tenants::new(alloc);
     assert!(rt; tenants.add(7, 100).is_ok());
     tenants
 }
@@ -50,8 +42,7 @@ fn tenant_7(rt: &impl Abort, alloc: Global) -> Tenants
 pub(crate) fn store_without_logs(rt: &impl Abort, alloc: Global) -> Store<MemDisk>
     ensures { IsUnasked result.source.state }
 {
-    let tenants = tenant_7(rt, alloc);
-    Store::without_logs(alloc, tenants).expect(rt, "memory")
+    Store::without_logs(alloc, tenant_7(rt, alloc)).expect(rt, "memory")
 }
 
 // A disk without a byte.
@@ -59,8 +50,8 @@ fn bare_disk(alloc: Global) -> MemDisk {
     MemDisk::new(alloc, Vec::new(alloc), None)
 }
 
-/// Slots on disks without a byte.
-pub(crate) fn bare_slots(alloc: Global) -> StoreSlots<MemDisk> {
+// Slots on disks without a byte.
+fn bare_slots(alloc: Global) -> StoreSlots<MemDisk> {
     StoreSlots::found(bare_disk(alloc), bare_disk(alloc))
 }
 
@@ -145,105 +136,6 @@ pub(crate) const NEXT_LOG: &[u8] =
 /// One session of one worker.
 pub(crate) const ONE_SESSION: &str = "mt_server --port 0 --workers 1 --sessions 1 7:100";
 
-// What the client of a server does.
-#[derive(Clone, Copy)]
-pub(crate) enum Scene {
-    /// It puts and settles.
-    Settles,
-    /// It puts and leaves.
-    Leaves,
-    /// It puts, and the disk fails when it settles first.
-    SettlesTwice,
-    /// It reads what was put before.
-    Reads,
-    /// It reads that and settles.
-    ReadsAndSettles,
-    /// It reads both columns.
-    ReadsBoth,
-    /// It puts on condition of the stamp of what was put before, twice.
-    MeetsStamp,
-    /// It puts over what was put before, and settles, so many times.
-    Overwrites(u8),
-    /// It reads and puts, while one number is left or none, and settles.
-    FindsAllSpent,
-    /// It puts, and after a while it puts another column.
-    PutsAfterAWhile,
-    /// As tenant 8 it puts and settles.
-    SettlesAs8,
-    /// As tenant 8, which may have one pair, it reads what was put before, and puts no other pair.
-    ReadsAs8,
-}
-
-// Plays a scene; whether the client was told what it should be.
-fn play(scene: Scene, client: TcpStream) -> io::Result<bool> {
-    match scene {
-        Scene::Settles => are_told(&client, &[(OPEN, OPENED), (PUT, NEW), (SETTLE, SETTLED_6)]),
-        Scene::Leaves => are_told(&client, &[(OPEN, OPENED), (PUT, NEW)]),
-        Scene::SettlesTwice => are_told(
-            &client,
-            &[
-                (OPEN, OPENED),
-                (PUT, NEW),
-                (SETTLE, DEVICE),
-                (SETTLE, SETTLED_6),
-            ],
-        ),
-        Scene::Reads => are_told(&client, &[(OPEN, OPENED), (GET, FOUND)]),
-        Scene::ReadsAndSettles => {
-            Ok(are_told(&client, &[(OPEN, OPENED), (GET, FOUND)])? && is_settled(&client)?)
-        }
-        Scene::ReadsBoth => are_told(&client, &[(OPEN, OPENED), (GET, FOUND_BOTH)]),
-        Scene::Overwrites(times) => {
-            Ok(is_told(&client, OPEN, OPENED)? && overwrites(&client, times)?)
-        }
-        Scene::MeetsStamp => are_told(
-            &client,
-            &[(OPEN, OPENED), (PUT_AT_5, REPLACED), (PUT_AT_5, STALE_10)],
-        ),
-        Scene::FindsAllSpent => are_told(
-            &client,
-            &[
-                (OPEN, OPENED),
-                (GET, SPENT),
-                (PUT, SPENT),
-                (SETTLE, SETTLED_LAST),
-            ],
-        ),
-        Scene::SettlesAs8 => {
-            Ok(are_told(&client, &[(OPEN_8, OPENED), (PUT, NEW)])? && is_settled(&client)?)
-        }
-        Scene::ReadsAs8 => are_told(&client, &[(OPEN_8, OPENED), (GET, FOUND), (PUT_L, FULL)]),
-        Scene::PutsAfterAWhile => Ok(
-            are_told(&client, &[(OPEN, OPENED), (PUT, NEW)])?
-                && waits(&client)?
-                && is_told(&client, PUT_OTHER, REPLACED)?,
-        ),
-    }
-}
-
-// Waits for half a second, in which the client is told nothing.
-fn waits(client: &TcpStream) -> io::Result<bool> {
-    client.set_read_timeout(Some(Duration::from_millis(500)))?;
-    let mut reader = client;
-    let mut room = [0u8; 1];
-    let told = reader.read(&mut room);
-    client.set_read_timeout(None)?;
-    Ok(told.is_err())
-}
-
-/// So many times it puts each time.
-pub(crate) const PUTS: usize = 30;
-
-// Puts another column, which may stand there, and settles, so many times; whether the client was told that each time.
-fn overwrites(client: &TcpStream, times: u8) -> io::Result<bool> {
-    for _ in 0..times {
-        if !are_told(client, &[(PUT_OTHER, REPLACED); PUTS])? || !is_settled(client)? {
-            return Ok(false);
-        }
-    }
-    Ok(true)
-}
-
 /// What a server wrote, and how it ended.
 pub(crate) type Served<D> = (Vec<u8>, Result<Ending<D>, ServerFault>);
 
@@ -293,81 +185,72 @@ pub(crate) fn serve_beside<
     served
 }
 
-/// A server over a store, and its only client, who plays a scene; the store that is left.
-pub(crate) fn serve_scene<R, D: Disk + Drop + Send>(
-    rt: &R,
-    alloc: Global,
-    store: Store<D>,
-    line: &str,
-    scene: Scene,
-) -> Store<D>
-where
-    R: Net<Listener = TcpListener, Stream = TcpStream>
-        + Threads
-        + Wait
-        + Clock
-        + Log
-        + Abort
-        + Sync,
+/// A server over a store, and its only client, who is told so; the store that is left.
+pub(crate) fn serve_told<
+    R: Host + Net<Listener = TcpListener, Stream = TcpStream>,
+    D: Disk + Drop + Send,
+>(rt: &R, alloc: Global, store: Store<D>, line: &str, told: &[Told]) -> Store<D>
     requires { IsUnasked store.source.state }
 {
     let listener = TcpListener::bind(rt, ("127.0.0.1", 0u16)).expect(rt, "a socket");
     let port = listener.local_addr().expect(rt, "a socket").port();
     let client = connect(rt, port).expect(rt, "a socket");
-    let (_, end) = serve_beside(
-        rt,
-        alloc,
-        listener,
-        line,
-        store,
-        move || play(scene, client),
-    );
+    let (_, end) = serve_beside(rt, alloc, listener, line, store, move || {
+        are_told(&client, told)
+    });
     end.expect(rt, "the server ends well").store
 }
+
+// What a client is told, and which call of the log's disk fails.
+const KEPT: [(&[Told], u64); 6] = [
+    (&[OPEN, PUT, SETTLE_6], 0),
+    (&[OPEN, PUT], 0),
+    (SETTLES_TWICE, 4),
+    (SETTLES_TWICE, 5),
+    (SETTLES_TWICE, 6),
+    (SETTLES_TWICE, 7),
+];
+
+const SETTLES_TWICE: &[Told] = &[OPEN, PUT, SETTLE_FAILS, SETTLE_6];
 
 // A settled put is in the log, also one that nobody settled: the server settles at its end. A disk that
 // fails once loses nothing.
 #[test]
 fn what_was_put_is_in_the_log(rt: HostRuntime) {
-    let alloc = rt.alloc();
-    let scenes = [
-        (Scene::Settles, 0),
-        (Scene::Leaves, 0),
-        (Scene::SettlesTwice, 4),
-        (Scene::SettlesTwice, 5),
-        (Scene::SettlesTwice, 6),
-        (Scene::SettlesTwice, 7),
-    ];
-    for (scene, fail) in scenes {
-        let store = new_store(&rt, alloc, 1, &[fail]);
-        let left = serve_scene(&rt, alloc, store, ONE_SESSION, scene);
-        assert_eq!(rt; image_of(&rt, alloc, left).as_slice(), LOG, "{fail}");
+    for (told, fail) in KEPT {
+        let store = new_store(&rt, rt.alloc(), 1, &[fail]);
+        let left = serve_told(&rt, rt.alloc(), store, ONE_SESSION, told);
+        assert_eq!(rt; image_of(&rt, rt.alloc(), left).as_slice(), LOG, "{fail}");
     }
 }
 
 // What nobody settles is in the log before more is put, since the server settles by the clock.
 #[test]
 fn a_server_settles_by_the_clock(rt: HostRuntime) {
-    let alloc = rt.alloc();
-    let store = new_store(&rt, alloc, 1, &[]);
+    let store = new_store(&rt, rt.alloc(), 1, &[]);
     let line =
         "mt_server --port 0 --workers 1 --sessions 1 --store in_memory --settle-every 5 7:100";
-    let left = serve_scene(&rt, alloc, store, line, Scene::PutsAfterAWhile);
-    let image = image_of(&rt, alloc, left);
+    let left = serve_told(&rt, rt.alloc(), store, line, &[OPEN, PUT, WAIT, PUT_OTHER]);
+    let image = image_of(&rt, rt.alloc(), left);
     let first = LOG.split_last().map(|(_, front)| front).unwrap_or(&[]);
     assert!(rt; image.starts_with(first) && image.len() > LOG.len());
 }
 
+// A log, and what a client is told of it.
+const AGAIN: [(&[u8], &[Told]); 2] = [
+    (LOG, &[OPEN, GET]),
+    (LAST_LOG, &[OPEN, GET_SPENT, PUT_SPENT, SETTLE_LAST]),
+];
+
 // A server starts twice from a log, and each time its client is told the same. The log grows behind its last batch.
 #[test]
 fn what_was_put_is_there_again_and_numbers_stay_given(rt: HostRuntime) {
-    let alloc = rt.alloc();
-    for (log, scene) in [(LOG, Scene::Reads), (LAST_LOG, Scene::FindsAllSpent)] {
-        let mut image = log.to_vec(alloc).expect(&rt, "memory");
+    for (log, told) in AGAIN {
+        let mut image = log.to_vec(rt.alloc()).expect(&rt, "memory");
         for _ in 0..2u32 {
-            let store = recovered(&rt, alloc, &image);
-            let left = serve_scene(&rt, alloc, store, ONE_SESSION, scene);
-            let grown = image_of(&rt, alloc, left);
+            let store = recovered(&rt, rt.alloc(), &image);
+            let left = serve_told(&rt, rt.alloc(), store, ONE_SESSION, told);
+            let grown = image_of(&rt, rt.alloc(), left);
             let batches = image.split_last().map(|(_, front)| front).unwrap_or(&[]);
             assert!(rt; grown.starts_with(batches) && grown.len() > image.len());
             image = grown;
@@ -378,7 +261,12 @@ fn what_was_put_is_there_again_and_numbers_stay_given(rt: HostRuntime) {
 // A row has its stamp again after a start, so a client of before the start meets it, once.
 #[test]
 fn a_stamp_is_met_after_a_start(rt: HostRuntime) {
-    let alloc = rt.alloc();
-    let store = recovered(&rt, alloc, LOG);
-    drop(serve_scene(&rt, alloc, store, ONE_SESSION, Scene::MeetsStamp));
+    let store = recovered(&rt, rt.alloc(), LOG);
+    drop(serve_told(
+        &rt,
+        rt.alloc(),
+        store,
+        ONE_SESSION,
+        &[OPEN, PUT_AT_5, PUT_AT_10],
+    ));
 }

@@ -1,17 +1,14 @@
 //! Stores that are only read: what is said of them, and that their folders stay as they were.
 
-use crate::folders::SPARE;
+use crate::folders::{SPARE, opened};
+use crate::hosts::Host;
 use crate::stores::{LOG, NEXT_LOG};
 use crate::words::options_of;
-use log::Log;
-use mt_service::{open_store, verify_store};
+use mt_service::verify_store;
 use std::alloc::{Alloc, Global};
 use std::fs::{self, File};
 use std::io;
-use std::process::Abort;
 use std::rt::Files;
-use std::sync::Wait;
-use std::time::Clock;
 
 const FOLDER: &str = "mt_server_tests_verified";
 
@@ -23,11 +20,9 @@ const CHECKPOINT: &[u8] =
 const DIGEST: &[u8] =
     b"\x01\x00\x00\x00\x00\x00\x00\x00\x2b\x49\xb6\x1b\xec\x4e\xce\x76\x9f\x12\xc0\x79\xd8\xba\x4e\x85\x03\x67\xa6\x1d\xec\x05\xb9\xe3\x36\x76\x96\x27\xf1\x4d\x84\x5a\x7a";
 
-// Files, the last options, the status, what is said to standard output, and how what is said to standard error begins.
+// Files, the last options, and what is said: to standard output, the status, and how what is said to standard error begins.
 type Row = (
     &'static [(&'static str, &'static [u8])],
-    &'static str,
-    u8,
     &'static str,
     &'static str,
 );
@@ -44,16 +39,12 @@ const ROWS: [Row; 7] = [
             ("check-1", SPARE),
         ],
         "7:1 8:1 --settle-every 5",
-        0,
-        "check-0: a checkpoint of steps 5 to 6, 44 bytes, agrees with its digest\ncheck-1: no checkpoint\nwal-00: the first log of worker 0, 55 bytes, has no digest\nwal-00-0: no log\nwal-00-1: the log of worker 0, generation 1, from step 6, 26 bytes, has no digest\nthe store goes up to step 6: 1 pairs of 2 tenants\n",
-        "",
+        "check-0: a checkpoint of steps 5 to 6, 44 bytes, agrees with its digest\ncheck-1: no checkpoint\nwal-00: the first log of worker 0, 55 bytes, has no digest\nwal-00-0: no log\nwal-00-1: the log of worker 0, generation 1, from step 6, 26 bytes, has no digest\nthe store goes up to step 6: 1 pairs of 2 tenants\n0: ",
     ),
     (
         &[("wal-00", TORN_LOG)],
         "7:1",
-        0,
-        "wal-00: the first log of worker 0, 58 bytes, has no digest\nthe store goes up to step 6: 1 pairs of 1 tenants\n",
-        "",
+        "wal-00: the first log of worker 0, 58 bytes, has no digest\nthe store goes up to step 6: 1 pairs of 1 tenants\n0: ",
     ),
     // A digest that isn't the file's.
     (
@@ -63,9 +54,7 @@ const ROWS: [Row; 7] = [
             ("wal-00-1.sha256", DIGEST),
         ],
         "7:1",
-        3,
-        "wal-00: the first log of worker 0, 55 bytes, has no digest\nwal-00-1: the log of worker 0, generation 1, from step 6, 26 bytes, isn't what was written, by its digest\n",
-        "E15: 'mt_server_tests_verified/wal-00-1' isn't what was written, by its digest in 'mt_server_tests_verified/wal-00-1.sha256': ",
+        "wal-00: the first log of worker 0, 55 bytes, has no digest\nwal-00-1: the log of worker 0, generation 1, from step 6, 26 bytes, isn't what was written, by its digest\n3: E15: 'mt_server_tests_verified/wal-00-1' isn't what was written, by its digest in 'mt_server_tests_verified/wal-00-1.sha256': ",
     ),
     // A torn gate of a numbered file.
     (
@@ -75,9 +64,7 @@ const ROWS: [Row; 7] = [
             ("check-1", b""),
         ],
         "7:1",
-        0,
-        "check-1: no checkpoint\nwal-00: the first log of worker 0, 55 bytes, has no digest\nwal-00-0: no log\nthe store goes up to step 6: 1 pairs of 1 tenants\n",
-        "",
+        "check-1: no checkpoint\nwal-00: the first log of worker 0, 55 bytes, has no digest\nwal-00-0: no log\nthe store goes up to step 6: 1 pairs of 1 tenants\n0: ",
     ),
     // A file that is missing, no log, and a tenant that isn't named.
     (
@@ -87,23 +74,17 @@ const ROWS: [Row; 7] = [
             ("check-1", SPARE),
         ],
         "7:1",
-        3,
-        "check-0: no checkpoint\ncheck-1: no checkpoint\nwal-00-1: the log of worker 0, generation 1, from step 6, 26 bytes, has no digest\n",
-        "E15: 'mt_server_tests_verified/wal-00', 'mt_server_tests_verified/wal-00-0' are missing, which this store had: ",
+        "check-0: no checkpoint\ncheck-1: no checkpoint\nwal-00-1: the log of worker 0, generation 1, from step 6, 26 bytes, has no digest\n3: E15: 'mt_server_tests_verified/wal-00', 'mt_server_tests_verified/wal-00-0' are missing, which this store had: ",
     ),
     (
         &[("wal-00", b"MTLOG\x03"), ("wal-00-0", b"\x01")],
         "7:1",
-        3,
-        "wal-00: the first log of worker 0, 6 bytes, has no digest\nwal-00-0: no header after an open gate, 1 bytes, has no digest\n",
-        "E12: the log of worker 0 in 'mt_server_tests_verified' is no log from byte 0 on: ",
+        "wal-00: the first log of worker 0, 6 bytes, has no digest\nwal-00-0: no header after an open gate, 1 bytes, has no digest\n3: E12: the log of worker 0 in 'mt_server_tests_verified' is no log from byte 0 on: ",
     ),
     (
         &[("wal-00", LOG)],
         "8:1",
-        3,
-        "wal-00: the first log of worker 0, 55 bytes, has no digest\n",
-        "E4: the store in 'mt_server_tests_verified' has pairs of tenant 7, ",
+        "wal-00: the first log of worker 0, 55 bytes, has no digest\n3: E4: the store in 'mt_server_tests_verified' has pairs of tenant 7, ",
     ),
 ];
 
@@ -112,42 +93,33 @@ const TORN_LOG: &[u8] =
     b"MTLOG\x02\x00\x01\x01\x00\x00\x00\x29\x02\x00\x00\x00\x00\x00\x00\x00\x00\x00\x00\x00\x00\x00\x00\x00\x06\x00\x00\x00\x01\x00\x00\x00\x00\x00\x00\x00\x05\x00\x00\x00\x07\x00\x01k\x01\x01\x00\x01v\x07\x01\x02\x03";
 
 // A line is told so of its folder.
-fn expect_said<R: Files<File = File> + Clock + Log + Wait + Abort>(
-    rt: &R,
-    alloc: Global,
-    line: &str,
-    status: u8,
-    said: &str,
-    told: &str,
-) {
+fn expect_said<R: Host + Files<File = File>>(rt: &R, alloc: Global, line: &str, wanted: &str) {
     let options = options_of(rt, alloc, line);
     let mut out = Vec::new(alloc);
-    let (is_status, is_told) = match verify_store(rt, alloc, &options, FOLDER, &mut out) {
-        Ok(()) => (0, String::new(alloc)),
-        Err(fault) => (
-            fault.status(),
-            format!(in alloc; "{fault}").expect(rt, "memory"),
-        ),
-    };
+    let end = verify_store(rt, alloc, &options, FOLDER, &mut out);
     let text = str::from_utf8(out.as_slice()).unwrap_or("no text");
-    assert_eq!(rt; (is_status, text), (status, said), "{line}: {is_told}");
-    assert!(rt; is_told.starts_with(told), "{line}: {is_told}");
+    let said = match end {
+        Ok(()) => format!(in alloc; "{text}0: "),
+        Err(fault) => format!(in alloc; "{text}{}: {fault}", fault.status()),
+    };
+    let said = said.expect(rt, "memory");
+    assert!(rt; said.starts_with(wanted), "{line}: {said}");
 }
 
 // A folder with these files alone is told of so, and has them then as it had before.
-fn expect_row<R: Files<File = File> + Alloc + Clock + Log + Wait + Abort>(
+fn expect_row<R: Host + Files<File = File> + Alloc>(
     rt: &R,
     alloc: Global,
     row: Row,
 ) -> io::Result<()> {
-    let (files, more, status, said, told) = row;
+    let (files, more, said) = row;
     fs::create_dir(rt, FOLDER)?;
     for (name, bytes) in files {
         let path = format!(in alloc; "{FOLDER}/{name}")?;
         fs::write(rt, path.as_str(), *bytes)?;
     }
     let line = format!(in alloc; "mt_server --workers 1 --verify {FOLDER} {more}")?;
-    expect_said(rt, alloc, line.as_str(), status, said, told);
+    expect_said(rt, alloc, line.as_str(), said);
     for (name, bytes) in files {
         let path = format!(in alloc; "{FOLDER}/{name}")?;
         let left = fs::read(rt, path.as_str())?;
@@ -166,14 +138,13 @@ fn a_store_that_is_read_stays_as_it_was(rt: HostRuntime) {
         assert!(rt; expect_row(&rt, alloc, row).is_ok());
     }
     let line = "mt_server --workers 1 --verify mt_server_tests_verified 7:1";
-    let none = "E15: there is no folder 'mt_server_tests_verified': ";
-    expect_said(&rt, alloc, line, 3, "", none);
+    let none = "3: E15: there is no folder 'mt_server_tests_verified': ";
+    expect_said(&rt, alloc, line, none);
     // One that is served from isn't read.
     let new = "mt_server --workers 1 --store mt_server_tests_verified --create 7:1";
-    let opened = open_store(&rt, alloc, &options_of(&rt, alloc, new));
-    assert!(rt; opened.is_ok());
-    let in_use = "E10: another server has 'mt_server_tests_verified' open: ";
-    expect_said(&rt, alloc, line, 3, "", in_use);
-    drop(opened);
+    let store = opened(&rt, alloc, new);
+    let in_use = "3: E10: another server has 'mt_server_tests_verified' open: ";
+    expect_said(&rt, alloc, line, in_use);
+    drop(store);
     let _ = fs::remove_dir_all(&rt, FOLDER);
 }

@@ -16,7 +16,7 @@ fn words_of(alloc: Global, line: &str) -> Result<Vec<String>, AllocError> {
 }
 
 // The options of a line, which has no fault.
-pub(crate) fn options_of<R: Abort>(rt: &R, alloc: Global, line: &str) -> Options {
+pub(crate) fn options_of(rt: &impl Abort, alloc: Global, line: &str) -> Options {
     let words = words_of(alloc, line).expect(rt, "memory");
     match read_options(alloc, words.as_slice()) {
         Ok(options) => options,
@@ -25,7 +25,7 @@ pub(crate) fn options_of<R: Abort>(rt: &R, alloc: Global, line: &str) -> Options
 }
 
 // Why a line starts no server.
-fn fault_of<R: Abort>(rt: &R, alloc: Global, line: &str) -> OptionsFault {
+fn fault_of(rt: &impl Abort, alloc: Global, line: &str) -> OptionsFault {
     let words = words_of(alloc, line).expect(rt, "memory");
     match read_options(alloc, words.as_slice()) {
         Ok(_) => panic!(rt; "{line}: taken"),
@@ -33,88 +33,51 @@ fn fault_of<R: Abort>(rt: &R, alloc: Global, line: &str) -> OptionsFault {
     }
 }
 
+// The words after the program's, and what they ask for: the port, workers, sessions and tenants; a store's folder, whether it is
+// made anew, and when a checkpoint is written and all is settled; and the folder of a store that is only read, which is named by a
+// line of a start, with its other options.
+const READ: [&str; 8] = [
+    "--port 0 --workers 64 --sessions 2 7:100 8:1 => 0 64 2 2; no store; ",
+    "4294967295:1048576 => 7411 4 0 1; no store; ",
+    "--store here 7:1 => 7411 4 0 1; here false 0 0 0; ",
+    "7:1 --create --store=a/b => 7411 4 0 1; a/b true 0 0 0; ",
+    "--checkpoint 0 --store here --checkpoint-bytes 1 7:1 => 7411 4 0 1; here false 0 1 0; ",
+    "--store here --checkpoint=4294967295 7:1 --create => 7411 4 0 1; here true 4294967295 0 0; ",
+    "--store here --settle-every 4294967295 --checkpoint-bytes 18446744073709551615 7:1 => 7411 4 0 1; here false 0 18446744073709551615 4294967295; ",
+    "--workers 2 --verify a/b --checkpoint 5 --settle-every 1 7:1 => 7411 2 0 1; no store; a/b",
+];
+
+// What options ask for, in the words of `READ`.
+fn told_of(alloc: Global, options: &Options) -> Result<String, AllocError> {
+    let store = match &options.store {
+        Some(place) => format!(in alloc;
+            "{} {} {} {} {}",
+            place.folder, place.create, place.checkpoint, place.checkpoint_bytes, place.settle_every
+        )?,
+        None => String::from_str(alloc, "no store")?,
+    };
+    let verify = options
+        .verify
+        .as_ref()
+        .map(|folder| folder.as_str())
+        .unwrap_or("");
+    let tenants = options.tenants.len();
+    Ok(format!(in alloc;
+        "{} {} {} {tenants}; {store}; {verify}",
+        options.port, options.workers, options.sessions
+    )?)
+}
+
 #[test]
 fn words_are_read(rt: HostRuntime) -> Result<(), Fail> {
-    let options = options_of(
-        &rt,
-        rt.alloc(),
-        "mt_server --port 0 --workers 64 --sessions 2 7:100 8:1",
-    );
-    assert_eq!(rt;
-        (options.port, options.workers, options.sessions),
-        (0, 64, 2)
-    );
-    assert_eq!(rt; options.tenants.len(), 2);
-    let options = options_of(&rt, rt.alloc(), "mt_server 4294967295:1048576");
-    assert_eq!(rt;
-        (options.port, options.workers, options.sessions),
-        (7411, 4, 0)
-    );
-    assert!(rt; options.store.is_none());
+    for row in READ {
+        let (words, wanted) = row.split_once(" => ").expect(&rt, "a row has two parts");
+        let line = format!(in rt.alloc(); "mt_server {words}")?;
+        let options = options_of(&rt, rt.alloc(), line.as_str());
+        let told = told_of(rt.alloc(), &options)?;
+        assert_eq!(rt; told.as_str(), wanted);
+    }
     Ok(())
-}
-
-// The folder of a line's store, whether it is made anew, and when a checkpoint is written and all is settled.
-fn expect_store<R: Abort>(
-    rt: &R,
-    alloc: Global,
-    line: &str,
-    folder: &str,
-    create: bool,
-    when: (u32, u64, u32),
-) {
-    let options = options_of(rt, alloc, line);
-    match &options.store {
-        Some(place) => {
-            assert_eq!(rt; place.folder.as_str(), folder, "{line}");
-            assert_eq!(rt; place.create, create, "{line}");
-            let found = (place.checkpoint, place.checkpoint_bytes, place.settle_every);
-            assert_eq!(rt; found, when, "{line}");
-        }
-        None => panic!(rt; "{line}: no store"),
-    }
-}
-
-#[test]
-fn stores_are_named(rt: HostRuntime) {
-    let alloc = rt.alloc();
-    let lines = [
-        ("mt_server --store here 7:1", "here", false, (0, 0, 0)),
-        ("mt_server 7:1 --create --store=a/b", "a/b", true, (0, 0, 0)),
-        (
-            "mt_server --checkpoint 0 --store here --checkpoint-bytes 1 7:1",
-            "here",
-            false,
-            (0, 1, 0),
-        ),
-        (
-            "mt_server --store here --checkpoint=4294967295 7:1 --create",
-            "here",
-            true,
-            (4_294_967_295, 0, 0),
-        ),
-        (
-            "mt_server --store here --settle-every 4294967295 --checkpoint-bytes 18446744073709551615 7:1",
-            "here",
-            false,
-            (0, u64::MAX, 4_294_967_295),
-        ),
-    ];
-    for (line, folder, create, when) in lines {
-        expect_store(&rt, alloc, line, folder, create, when);
-    }
-}
-
-// A store that is only read is named by a line of a start, with its other options.
-#[test]
-fn a_store_to_read_is_named(rt: HostRuntime) {
-    let line = "mt_server --workers 2 --verify a/b --checkpoint 5 --settle-every 1 7:1";
-    let options = options_of(&rt, rt.alloc(), line);
-    assert!(rt; options.store.is_none());
-    assert_eq!(rt;
-        options.verify.as_ref().map(|folder| folder.as_str()),
-        Some("a/b")
-    );
 }
 
 // The words after the program's, the status, and how what is said begins. A fault names the word, what is wrong with it,
@@ -166,7 +129,7 @@ fn words_are_refused(rt: HostRuntime) -> Result<(), Fail> {
     for row in REFUSED {
         let (words, wanted) = row.split_once(" => ").expect(&rt, "a row has two parts");
         let line = format!(in alloc; "mt_server {words}")?;
-        let fault = fault_of(&rt, alloc, line.as_str());
+        let fault = fault_of(&rt, rt.alloc(), line.as_str());
         let told = format!(in alloc; "{}: {fault}", fault.status())?;
         assert!(rt; told.starts_with(wanted), "{words}: {told}");
     }

@@ -1,7 +1,7 @@
 //! Servers of two workers, with a log and a client each, and of eight.
 
 use crate::clients::{
-    ABSENT, FOUND, GET, NEW, OPEN, OPENED, PUT, PUT_L, connect, connected, is_settled, is_told,
+    GET, GET_L, GET_NONE, OPEN, PUT, PUT_L, SETTLE, Told, connect, connected, is_told,
 };
 use crate::servers::TWO_WORKERS;
 use crate::stores::{disk_with, image_in, new_store, serve_beside};
@@ -15,21 +15,18 @@ use std::process::Abort;
 use std::test::Fail;
 use std::thread::{self, Threads};
 
-/// `l` is asked for.
-const GET_L: &[u8] = b"\x00\x00\x00\x05\x02\x00\x01l\x00";
-
 // A client puts a key, gets it past the 1,024th answer, and settles; whether it is told what it should be.
-fn goes_on(client: &TcpStream, put: &[u8], get: &[u8]) -> io::Result<bool> {
-    let mut is_right = is_told(client, put, NEW)?;
+fn goes_on(client: &TcpStream, put: Told, get: Told) -> io::Result<bool> {
+    let mut is_right = is_told(client, put)?;
     for _ in 0..1_030 {
-        is_right = is_told(client, get, FOUND)? && is_right;
+        is_right = is_told(client, get)? && is_right;
     }
-    Ok(is_settled(client)? && is_right)
+    Ok(is_told(client, SETTLE)? && is_right)
 }
 
 // Both sessions are open before either client puts, so each has a worker of its own.
-fn play<R: Threads>(rt: &R, first: TcpStream, second: TcpStream) -> io::Result<bool> {
-    if !is_told(&first, OPEN, OPENED)? || !is_told(&second, OPEN, OPENED)? {
+fn play(rt: &impl Threads, first: TcpStream, second: TcpStream) -> io::Result<bool> {
+    if !is_told(&first, OPEN)? || !is_told(&second, OPEN)? {
         return Ok(false);
     }
     let (one, other) = thread::join(
@@ -84,10 +81,10 @@ fn each_worker_has_a_log_of_its_own(rt: HostRuntime) {
 fn are_answered(clients: &[TcpStream]) -> io::Result<bool> {
     let mut is_right = true;
     for client in clients {
-        is_right = is_told(client, OPEN, OPENED)? && is_right;
+        is_right = is_told(client, OPEN)? && is_right;
     }
     for client in clients {
-        is_right = is_told(client, GET, ABSENT)? && is_settled(client)? && is_right;
+        is_right = is_told(client, GET_NONE)? && is_told(client, SETTLE)? && is_right;
     }
     Ok(is_right)
 }
