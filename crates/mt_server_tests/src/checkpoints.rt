@@ -1,7 +1,7 @@
 //! Checkpoints that a server writes into its folder and the turns of its logs, and a start from them.
 
 use crate::clients::{
-    GET, GET_BOTH, OPEN, OPEN_8, PUT, PUT_L_FULL, PUT_OTHER, SETTLE, SETTLE_6, Told,
+    GET, GET_BOTH, OPEN, OPEN_8, PUT, PUT_L_FULL, PUT_OTHER, SETTLE, SETTLE_6, Told, WAIT,
 };
 use crate::folders::{SPARE, expect_file, opened};
 use crate::hosts::Host;
@@ -249,6 +249,12 @@ fn turns_follow_each_other_and_keep_the_logs_short(rt: HostRuntime) -> Result<()
         expect_generation(&rt, rt.alloc(), last);
         serve(&rt, rt.alloc(), again, &[OPEN, GET_BOTH]);
     }
+    // The logs grow by a byte and more each time. A turn is made while the client is silent, and one at the server's end.
+    let by_length =
+        "mt_server --workers 2 --store mt_server_tests_turns --checkpoint-bytes 1 --settle-every 50 --sessions 1 7:100";
+    let told = [OPEN, PUT_OTHER, WAIT, PUT_OTHER, WAIT, PUT_OTHER, WAIT];
+    serve(&rt, rt.alloc(), by_length, &told);
+    generation_among(&rt, last.saturating_add(2), last.saturating_add(100));
     let _ = fs::remove_dir_all(&rt, "mt_server_tests_turns");
     Ok(())
 }

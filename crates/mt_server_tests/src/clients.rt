@@ -4,7 +4,7 @@ use std::io::{self, Read, Write};
 use std::net::{Net, TcpListener, TcpStream};
 use std::time::Duration;
 
-/// A request and its reply, of at most 16 bytes. For each `?` of a reply any byte may come.
+/// A request and its reply, of at most 17 bytes. For each `?` of a reply any byte may come.
 #[derive(Clone, Copy)]
 pub(crate) struct Told(&'static [u8], &'static [u8]);
 
@@ -80,6 +80,12 @@ pub(crate) const GET_SPENT: Told = Told(GET_K, SPENT);
 /// `l` is asked for, and `v` stands there.
 pub(crate) const GET_L: Told = Told(b"\x00\x00\x00\x05\x02\x00\x01l\x00", FOUND);
 
+/// `k` is asked for with its stamp, which is 10, and `v` stands there.
+pub(crate) const GET_AT_10: Told = Told(
+    b"\x00\x00\x00\x05\x07\x00\x01k\x00",
+    b"\x00\x00\x00\x0d\x0a\x00\x00\x00\x00\x00\x00\x00\x0a\x01\x00\x01v",
+);
+
 const ABSENT: &[u8] = b"\x00\x00\x00\x01\x01";
 
 const REMOVE_K: &[u8] = b"\x00\x00\x00\x04\x04\x00\x01k";
@@ -121,6 +127,9 @@ pub(crate) const BAD_FRAME: Told = Told(&[0; 90_000], REFUSED);
 
 const REFUSED: &[u8] = b"\x00\x00\x00\x01\x90";
 
+// The last fifth of a key of 32,765 bytes. Its remove is refused.
+const LONG_KEY_ENDS: Told = Told(&[b'k'; 6_553], b"\x00\x00\x00\x01\x81");
+
 /// Nothing is sent, and nothing comes for half a second.
 pub(crate) const WAIT: Told = Told(b"", b"");
 
@@ -160,8 +169,8 @@ pub(crate) fn is_told(stream: &TcpStream, told: Told) -> io::Result<bool> {
     }
     let mut client = stream;
     client.write_all(request)?;
-    let mut room = [0u8; 16];
-    let wanted = reply.len().min(16);
+    let mut room = [0u8; 17];
+    let wanted = reply.len().min(17);
     client.read_exact(&mut room[..wanted])?;
     let mut is_right = wanted == reply.len();
     for (came, wanted) in room.iter().zip(reply) {
@@ -171,6 +180,17 @@ pub(crate) fn is_told(stream: &TcpStream, told: Told) -> io::Result<bool> {
         return Ok(client.read(&mut room)? == 0 && is_right);
     }
     Ok(is_right)
+}
+
+/// Whether the longest frame, which comes in pieces, is told that its key is too long.
+pub(crate) fn is_longest_told(stream: &TcpStream) -> io::Result<bool> {
+    let mut client = stream;
+    client.write_all(b"\x00\x00\x80\x00\x04\x7f\xfd")?;
+    let Told(piece, _) = LONG_KEY_ENDS;
+    for _ in 0..4u8 {
+        client.write_all(piece)?;
+    }
+    is_told(stream, LONG_KEY_ENDS)
 }
 
 // Whether nothing comes for half a second.

@@ -5,8 +5,8 @@ ghost use Rattle.mt_state.specs.Begins.{HaveNoPairs};
 ghost use Rattle.mt_book.specs.Keeping.{IsUnasked};
 
 use crate::clients::{
-    GET, GET_SPENT, OPEN, PUT, PUT_AT_5, PUT_AT_10, PUT_OTHER, PUT_SPENT, SETTLE_6, SETTLE_FAILS,
-    SETTLE_LAST, Told, WAIT, are_told, connect,
+    GET, GET_AT_10, GET_SPENT, OPEN, PUT, PUT_AT_5, PUT_AT_10, PUT_OTHER, PUT_SPENT, SETTLE_6,
+    SETTLE_FAILS, SETTLE_LAST, Told, WAIT, are_told, connect,
 };
 use crate::hosts::Host;
 use crate::words::options_of;
@@ -267,6 +267,6 @@ fn a_stamp_is_met_after_a_start(rt: HostRuntime) {
         rt.alloc(),
         store,
         ONE_SESSION,
-        &[OPEN, PUT_AT_5, PUT_AT_10],
+        &[OPEN, PUT_AT_5, PUT_AT_10, GET_AT_10],
     ));
 }

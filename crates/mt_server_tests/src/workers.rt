@@ -1,7 +1,8 @@
 //! Servers of two workers, with a log and a client each, and of eight.
 
 use crate::clients::{
-    GET, GET_L, GET_NONE, OPEN, PUT, PUT_L, SETTLE, Told, connect, connected, is_told,
+    GET, GET_L, GET_NONE, OPEN, PUT, PUT_L, SETTLE, Told, connect, connected, is_longest_told,
+    is_told,
 };
 use crate::servers::TWO_WORKERS;
 use crate::stores::{disk_with, image_in, new_store, serve_beside};
@@ -15,13 +16,14 @@ use std::process::Abort;
 use std::test::Fail;
 use std::thread::{self, Threads};
 
-// A client puts a key, gets it past the 1,024th answer, and settles; whether it is told what it should be.
+// A client puts a key, gets it past the 1,024th answer, asks by the longest frame, and settles; whether it is told what it should
+// be.
 fn goes_on(client: &TcpStream, put: Told, get: Told) -> io::Result<bool> {
     let mut is_right = is_told(client, put)?;
     for _ in 0..1_030 {
         is_right = is_told(client, get)? && is_right;
     }
-    Ok(is_told(client, SETTLE)? && is_right)
+    Ok(is_longest_told(client)? && is_told(client, SETTLE)? && is_right)
 }
 
 // Both sessions are open before either client puts, so each has a worker of its own.
