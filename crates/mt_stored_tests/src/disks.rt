@@ -25,8 +25,8 @@ pub(crate) fn fails_of(disk: usize, fails: Fails) -> [Fails; 8] {
     all
 }
 
-/// A disk in memory, some of whose calls fail. It may have a device that gives back another last byte than it was given, or
-/// another byte from its first cut on.
+/// A disk in memory, some of whose calls fail, and its system may tell why. It may have a device that gives back another last
+/// byte than it was given, or another byte from its first cut on.
 #[derive(Drop)]
 pub(crate) struct FlakyDisk {
     image: Vec<u8>,
@@ -37,6 +37,8 @@ pub(crate) struct FlakyDisk {
     changes: Option<usize>,
     failures: u64,
     bytes_read: u64,
+    refuses: bool,
+    number: Option<i32>,
 }
 
 impl FlakyDisk {
@@ -52,6 +54,8 @@ impl FlakyDisk {
             changes: None,
             failures: 0,
             bytes_read: 0,
+            refuses: false,
+            number: None,
         }
     }
 
@@ -67,6 +71,19 @@ impl FlakyDisk {
     pub(crate) fn changing(self, place: usize) -> Self {
         FlakyDisk {
             changes: Some(place),
+            ..self
+        }
+    }
+
+    /// The same, of whose failures the system tells this.
+    pub(crate) fn telling(self, error: SystemError) -> Self {
+        let (refuses, number) = match error {
+            SystemError::OutOfMemory => (true, None),
+            SystemError::Number(number) => (false, Some(number)),
+        };
+        FlakyDisk {
+            refuses,
+            number,
             ..self
         }
     }
@@ -150,7 +167,7 @@ impl Disk for FlakyDisk {
 
     ghost plan = { λ _. None };
 
-    ghost was_refused = { λ _. false };
+    ghost was_refused = { λ f. f.refuses };
 
     fn len(&mut self) -> Result<usize, DeviceFailed> {
         let told = match self.call() {
@@ -209,6 +226,12 @@ impl Disk for FlakyDisk {
     }
 
     fn last_error(&self) -> Option<SystemError> {
-        None
+        if self.refuses {
+            return Some(SystemError::OutOfMemory);
+        }
+        match self.number {
+            Some(number) => Some(SystemError::Number(number)),
+            None => None,
+        }
     }
 }

@@ -10,6 +10,7 @@ use crate::stories::{new_store, recovered, store_of_two};
 use log::sink::Locked;
 use log::{Level, Log, Logged};
 use mt_book::Names;
+use mt_disk::SystemError;
 use mt_history::Naming;
 use mt_settle::next_generation;
 use mt_slots::{Slot, StoreSlots};
@@ -234,6 +235,32 @@ fn calls_of<R: Wait + Clock + Abort>(rt: &R, alloc: Global, disk: usize, rounds:
         }
     }
     0
+}
+
+// A full device, and want of memory in the disk.
+const CAUSES: [(SystemError, &str); 2] = [
+    (
+        SystemError::Number(28),
+        "[WARN  mt_service::turners] a checkpoint was given up: check-0: no space left on device (E10)\n",
+    ),
+    (
+        SystemError::OutOfMemory,
+        "[WARN  mt_service::turners] a checkpoint was given up: check-0: out of memory (E2)\n",
+    ),
+];
+
+// The first slot's disk fails in a turn, and its system tells why. So does the warning.
+#[test]
+fn a_checkpoint_that_is_given_up_is_warned_of_with_its_cause(rt: HostRuntime) {
+    let alloc = rt.alloc();
+    let (disk, call, rounds) = (6, 3, (0, 1));
+    for (error, warning) in CAUSES {
+        let first = FlakyDisk::new(Vec::new(alloc), (call, call + 1)).telling(error);
+        let slots = StoreSlots::found(first, FlakyDisk::new(Vec::new(alloc), NEVER));
+        let store = new_store(&rt, alloc, &[SOUND; 2], slots);
+        let (_, warnings) = run(&rt, alloc, store, Case { disk, call, rounds });
+        assert_eq!(rt; warnings.as_slice(), warning.as_bytes());
+    }
 }
 
 const NOT_READ_BACK: &str =
