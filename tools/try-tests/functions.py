@@ -56,7 +56,7 @@ def functions_in(text: str) -> Iterator[Function]:
             returned = result.group(1) if result else ""
             takes = re.search(r"\balloc: ", text[place:end]) is not None
             name = f"{owner}::{found['name']}" if owner else found["name"]
-            yield Function(name, found.start(), takes and returned not in ("", "Self", owner))
+            yield Function(name, found.start(), takes and returned.partition("<")[0] not in ("", "Self", owner))
 
 
 def functions_of(top: Path, crate: str) -> Iterator[tuple[Path, Function]]:
