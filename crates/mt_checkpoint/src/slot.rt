@@ -1,6 +1,6 @@
 //! A slot: made and written.
 
-ghost use Rattle.std.specs.{Prelude.{◌≡◌, [], ◌∷◌, ℕ, Bool, IsTrue, Result, Option, Some, None, Ok, Err, OnOk, OnErr, IfOk, IfErr}, List.All};
+ghost use Rattle.std.specs.{Prelude.{◌≡◌, ◌↔◌, ◌≤◌, ◌^◌, [], ◌∷◌, ℕ, Bool, IsTrue, Result, Option, Some, None, Ok, Err, OnOk, OnErr, IfOk, IfErr}, List.All};
 ghost use Rattle.mt_disk.specs.{Disk.{CountsFailure, LeavesOnly}, declared.disk.DeviceFailed.DeviceFailed};
 ghost use Rattle.mt_rows.specs.{Rows.Bytes, Commands.IsKey};
 ghost use Rattle.mt_checkpoint.specs.{Format.head_bytes, Checkpoints.{Walk, IsWalk, walk_bytes, IsOneOf, IsClosedAtRest, IsBehindGate, IsStaged}};
@@ -28,6 +28,13 @@ const LAST_BYTES: usize = 9;
 
 // The longest file that is written on.
 const MAX_END: usize = 1 << 60;
+
+// Whether a file is so long that it is written on no more.
+fn is_full(end: usize) -> bool
+    ensures { IsTrue result ↔ 2 ^ 60 ≤ end }
+{
+    end >= MAX_END
+}
 
 /// A checkpoint that is being written. Its gate stands closed whatever a crash leaves; its file ends at `end`.
 #[derive(Drop)]
@@ -131,7 +138,7 @@ impl<D: Disk> Writer<D> {
         ensures err { IfErr result (StopsOn D.is_honest D.state D.failures self.old self.new) }
         ensures refused { IfErr result (RefusesPairs D.is_honest D.state D.failures self.old pairs.now) }
     {
-        if self.end >= MAX_END {
+        if is_full(self.end) {
             return Err(FaultCause::Memory);
         }
         let block = entries(alloc, pairs)?;
@@ -153,7 +160,7 @@ impl<D: Disk> Writer<D> {
         if !may_end(self.first, last, self.seen.greatest()) {
             return Err(FaultCause::NotAWalk);
         }
-        if self.end >= MAX_END {
+        if is_full(self.end) {
             return Err(FaultCause::Memory);
         }
         let mut window = Vec::from_elem(alloc, 0, WINDOW_BYTES)?;

@@ -1,6 +1,6 @@
 //! A log on its disk: made, opened and appended to.
 
-ghost use Rattle.std.specs.Prelude.{◌≡◌, ◌<◌, ◌≤◌, ◌^◌, ◌++◌, ◌∷◌, [], length, IsTrue, IfOk, IfErr, OnOk, OnErr, ℕ};
+ghost use Rattle.std.specs.Prelude.{◌≡◌, ◌↔◌, ◌<◌, ◌≤◌, ◌^◌, ◌++◌, ◌∷◌, [], length, IsTrue, IfOk, IfErr, OnOk, OnErr, ℕ};
 ghost use Rattle.mt_disk.specs.Disk.{CountsFailure, GoesUp, synced};
 ghost use Rattle.mt_log.specs.{declared.batch.LogBatch.LogBatch, declared.reader.FileKind.FileKind, Format.{body, told_body}};
 ghost use Rattle.mt_log.specs.{Contents.{IsBatch, IsLogBatch, Rises, from_of, to_of, log_bytes, no_batches}, Fronts.IsAtRest};
@@ -20,6 +20,13 @@ use std::alloc::Global;
 
 // The longest file that is appended to.
 const MAX_END: usize = 1 << 60;
+
+// Whether a file is so long that it is appended to no more.
+fn is_full(end: usize) -> bool
+    ensures { IsTrue result ↔ 2 ^ 60 ≤ end }
+{
+    end >= MAX_END
+}
 
 // A file of so many bytes is not read.
 pub(crate) const LENGTH_LIMIT: usize = 1 << 63;
@@ -112,7 +119,7 @@ impl<D: Disk> LogFile<D> {
             let mark = self.mark;
             return Err(AppendFault::WrongTurn(self, batch, mark));
         }
-        if self.end >= MAX_END {
+        if is_full(self.end) {
             return Err(AppendFault::Memory(self, batch));
         }
         let block = match batch_block(alloc, &batch) {
@@ -144,7 +151,7 @@ impl<D: Disk> LogFile<D> {
         ensures ok { IfOk result (Appended D.is_honest D.state D.failures self (LogBatch.Resume self.mark to kept)) }
         ensures err { IfErr result (GivesLogBack D.is_honest D.state D.failures self (LogBatch.Resume self.mark to kept)) }
     {
-        if self.end >= MAX_END {
+        if is_full(self.end) {
             return Err(ResumeFault::Memory(self));
         }
         let block = match resume_block(alloc, self.mark, to, kept) {

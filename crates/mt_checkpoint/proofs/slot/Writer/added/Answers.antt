@@ -6,8 +6,8 @@ use Rattle.mt_checkpoint.specs.declared.fault.FaultCause.TheVariants.{Device, Me
 use Rattle.mt_checkpoint.proofs.Adding.{stays_so, stops_so, added_so}
 use Rattle.mt_checkpoint.proofs.slot.Writer.added.Goals as goal
 
-pub returns-then-self-ge-MAX_END-clause-err : goal.returns-then-self-ge-MAX_END-clause-err
-returns-then-self-ge-MAX_END-clause-err g c = stays_so g.D.Disk.is_honest g.D.Disk.state g.D.Disk.failures c.args.self.now c.args.self.now Memory refl (inl refl)
+pub returns-then-is_full-clause-err : goal.returns-then-is_full-clause-err
+returns-then-is_full-clause-err g c = stays_so g.D.Disk.is_honest g.D.Disk.state g.D.Disk.failures c.args.self.now c.args.self.now Memory refl (inl refl)
 
 pub returns-in_err-block-clause-err : goal.returns-in_err-block-clause-err
 returns-in_err-block-clause-err g c =

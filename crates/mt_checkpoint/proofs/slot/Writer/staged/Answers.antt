@@ -11,8 +11,8 @@ use Rattle.mt_checkpoint.proofs.slot.Writer.staged.Goals as goal
 pub returns-then-not-may_end-clause-err : goal.returns-then-not-may_end-clause-err
 returns-then-not-may_end-clause-err g c = stays_so g.D.Disk.is_honest g.D.Disk.state g.D.Disk.failures c.args.self.now c.args.self.now NotAWalk refl refl
 
-pub returns-then-self-ge-MAX_END-clause-err : goal.returns-then-self-ge-MAX_END-clause-err
-returns-then-self-ge-MAX_END-clause-err g c = stays_so g.D.Disk.is_honest g.D.Disk.state g.D.Disk.failures c.args.self.now c.args.self.now Memory refl (inl refl)
+pub returns-then-is_full-clause-err : goal.returns-then-is_full-clause-err
+returns-then-is_full-clause-err g c = stays_so g.D.Disk.is_honest g.D.Disk.state g.D.Disk.failures c.args.self.now c.args.self.now Memory refl (inl refl)
 
 pub returns-in_err-window-clause-err : goal.returns-in_err-window-clause-err
 returns-in_err-window-clause-err g c =
