@@ -5,7 +5,7 @@ use Rattle.std.specs.Prelude.{◌^◌, IsSome}
 use Rattle.mt_rows.specs.{declared.command.Command.Command, declared.reply.Reply.Reply, declared.refusal.Refusal.Refusal, declared.tenants.Account.Account}
 use Rattle.mt_rows.specs.{Accounts.{Accounts, account_of}, Maps.{reply_of, map_after}, Tenants.{Contents, tenant_map}}
 use Rattle.mt_runs.specs.Placings.{Maps}
-use Rattle.mt_session.specs.{declared.caller.CallerFault.CallerFault, declared.caller.CallerFault.TheVariants.{Refused, Stuck}}
+use Rattle.mt_caller.specs.{declared.caller.CallerFault.CallerFault, declared.caller.CallerFault.TheVariants.{Refused, Stuck}}
 use Rattle.mt_arena.specs.{Arena.ArenaView, Accesses.at}
 use Rattle.mt_operation.specs.Operations.{OperationView}
 use Rattle.mt_state.specs.{Views.{StateView, contents_of, quota_in, quota_of, granted, granted_in}, Begins.{Begins, begun, new_state}, Promises.IsPlacedToGrow}

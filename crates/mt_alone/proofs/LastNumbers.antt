@@ -5,7 +5,7 @@ use Rattle.std.specs.{Prelude.◌^◌, List.AllByRecursion}
 use Rattle.mt_rows.specs.{Rows.Bytes, declared.command.Command.Command, declared.command.Command.TheVariants.Get, declared.reply.Reply.Reply, Refusals.number_of}
 use Rattle.mt_rows.specs.{declared.refusal.Refusal.Refusal, declared.refusal.Refusal.TheVariants.{NoTenant, NotOpen, OpenTwice, NoStore, Spent}}
 use Rattle.mt_wire.specs.{declared.message.Request.Request, declared.message.Request.TheVariants.{Open, Call, GetStamped, Settle}, declared.message.WireReply.WireReply}
-use Rattle.mt_session.specs.{declared.caller.CallerFault.CallerFault, declared.caller.CallerFault.TheVariants.{Refused, Stuck}}
+use Rattle.mt_caller.specs.{declared.caller.CallerFault.CallerFault, declared.caller.CallerFault.TheVariants.{Refused, Stuck}}
 use Rattle.mt_session.specs.Sessions.{IsReply, AreReplies, Transcript, refused, call_told, open_told, settle_told}
 use Rattle.mt_alone.specs.TenantMaps.{TenantMaps, MayApply, MapsOpen, MapsRefusal, MapsAnswer, MapsCall, MapsExchange}
 

@@ -8,7 +8,7 @@ use Rattle.mt_runs.specs.Placings.{Maps}
 use Rattle.mt_wire.specs.{declared.message.Request.Request, declared.message.Request.TheVariants.{Open, Call, GetStamped, Settle}, declared.message.WireReply.WireReply}
 use Rattle.mt_wire.specs.{declared.message.WireReply.TheVariants.Told, Asked.shown_as, Fronts.IsReadingEnd, Replies.reply_spelling}
 use Rattle.mt_wire.proofs.{FrameLaws.one_reading, RequestLaws.requests}
-use Rattle.mt_session.specs.{declared.caller.CallerFault.CallerFault, declared.caller.CallerFault.TheVariants.{Refused, Stuck}, Exchanges.{Calls}}
+use Rattle.mt_caller.specs.{declared.caller.CallerFault.CallerFault, declared.caller.CallerFault.TheVariants.{Refused, Stuck}, Exchanges.Calls}
 use Rattle.mt_session.specs.Sessions.{IsReply, AreReplies, Transcript, call_told, open_told, open_after, settle_told}
 use Rattle.mt_session.proofs.PlainCallers.{fault_not_taken, fault_same}
 use Rattle.mt_alone.specs.TenantMaps.{TenantMaps, with_map, Applies, GivesNumbers, MapsOpen, MapsAnswer, MapsCall, MapsExchange}

@@ -7,7 +7,7 @@ use Rattle.mt_rows.specs.{declared.refusal.Refusal.Refusal, declared.refusal.Ref
 use Rattle.mt_wire.specs.{declared.message.Request.Request, declared.message.Request.TheVariants.{Open, Call, GetStamped, Settle}, declared.message.WireReply.WireReply}
 use Rattle.mt_wire.specs.{declared.message.WireReply.TheVariants.Told, Asked.shown_as, Fronts.IsReadingEnd, Replies.reply_spelling}
 use Rattle.mt_wire.proofs.{FrameLaws.one_reading, RequestLaws.requests}
-use Rattle.mt_session.specs.{declared.caller.CallerFault.CallerFault, declared.caller.CallerFault.TheVariants.{Refused, Stuck}}
+use Rattle.mt_caller.specs.{declared.caller.CallerFault.CallerFault, declared.caller.CallerFault.TheVariants.{Refused, Stuck}}
 use Rattle.mt_session.specs.Sessions.{IsReply, AreReplies, Transcript, refused, call_told, open_told, open_after, settle_told}
 use Rattle.mt_session.proofs.PlainCallers.{fault_not_taken, fault_same}
 use Rattle.mt_alone.specs.TenantMaps.{TenantMaps, Applies, GivesNumbers, MapsOpen, MapsRefusal, MapsAnswer, MapsCall, MapsExchange}

@@ -1,7 +1,7 @@
 -- What a caller over one state shows, keeps and answers.
 use Rattle.std.specs.Prelude.{◌≡◌, ◌≢◌, ℕ, ◌^◌, [], Option, Some, None, IsSome, Result, Ok, Err}
 use Rattle.mt_rows.specs.{declared.command.Command.Command, declared.reply.Reply.Reply, Accounts.account_of, Tenants.tenant_map}
-use Rattle.mt_session.specs.{declared.caller.CallerFault.CallerFault, declared.caller.CallerFault.TheVariants.{Refused, Stuck}, Exchanges.{Exchange, Calls}}
+use Rattle.mt_caller.specs.{declared.caller.CallerFault.CallerFault, declared.caller.CallerFault.TheVariants.{Refused, Stuck}, Exchanges.{Exchange, Calls}}
 use Rattle.mt_state.specs.{Views.{StateView, contents_of, granted}, Promises.IsPlacedToGrow}
 use Rattle.mt_core.specs.declared.answers.Ticket.{Ticket}
 use Rattle.mt_alone.specs.{TenantMaps.{TenantMaps, tenant_maps, MapsCall, MapsExchange}, Runs.{Keeps, IsIdle, IsOnly, IsSettled}}

@@ -1,7 +1,7 @@
 -- Sorted maps whose commands take their numbers from a list. Given the list, a session has one text, also if it asks for stamps.
 use Rattle.std.specs.Prelude.{◌≡◌, ◌≢◌, ℕ, List, ◌∷◌, Some, Ok}
 use Rattle.mt_rows.specs.{declared.command.Command.Command, declared.reply.Reply.TheVariants.NoMemory, Maps.map_after}
-use Rattle.mt_session.specs.Exchanges.{Exchange, Calls}
+use Rattle.mt_caller.specs.Exchanges.{Exchange, Calls}
 use Rattle.mt_alone.specs.TenantMaps.{TenantMaps, with_map, MapsExchange}
 
 -- tenants' maps, and the numbers of the commands that are to be answered, in their order

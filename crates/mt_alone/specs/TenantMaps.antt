@@ -4,8 +4,8 @@ use Rattle.mt_rows.specs.{declared.command.Command.Command, declared.reply.Reply
 use Rattle.mt_rows.specs.{declared.refusal.Refusal.Refusal, declared.refusal.Refusal.TheVariants.{NoTenant, NotOpen, NoStore, Spent}, Commands.IsTaken}
 use Rattle.mt_rows.specs.Maps.{Map, reply_of, map_after}
 use Rattle.mt_runs.specs.Placings.{Maps, no_pairs}
-use Rattle.mt_session.specs.{declared.caller.CallerFault.CallerFault, declared.caller.CallerFault.TheVariants.{Refused, Stuck}}
-use Rattle.mt_session.specs.Exchanges.{Exchange, Opens, Calls, Settles}
+use Rattle.mt_caller.specs.{declared.caller.CallerFault.CallerFault, declared.caller.CallerFault.TheVariants.{Refused, Stuck}}
+use Rattle.mt_caller.specs.Exchanges.{Exchange, Opens, Calls, Settles}
 use Rattle.mt_state.specs.Refused.{IsFault}
 
 -- each tenant's quota, where there is such a tenant; each tenant's map; the tenant that is opened; and the last number that was given

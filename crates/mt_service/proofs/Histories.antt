@@ -9,7 +9,7 @@ use Rattle.mt_history.proofs.Fronts.{prefix_trans}
 use Rattle.mt_book.{specs.{declared.calls.CallFault.CallFault, declared.shared.Clerk.Clerk, Periods.Period, OneRun.AreTold, Keeping.IsWhole, Serves.clerk_of}, proofs.OneRuns.one_run}
 use Rattle.mt_orders.proofs.{Explaining.explained, Calling.{calls_views, chain_front}}
 use Rattle.mt_crew.specs.{Servings.IsServed, declared.crew.Served.Served}
-use Rattle.mt_session.specs.{declared.caller.CallerFault.CallerFault, Exchanges.{Exchange, Opens, Calls, Settles}}
+use Rattle.mt_caller.specs.{declared.caller.CallerFault.CallerFault, Exchanges.{Exchange, Opens, Calls, Settles}}
 use Rattle.mt_options.specs.declared.tenants.TenantQuota.{TenantQuota}
 use Rattle.mt_settle.specs.Turns.{Turn}
 use Rattle.mt_stored.specs.{declared.shared.SharedLogs.SharedLogs, Checkpoints.Scanner, Digests.DigestCall, Keeping.{Kept, GivesTurns}}

@@ -3,7 +3,8 @@ use Rattle.std.{proofs.Common.{◌≡◌, Bool, true, false, List, [], ◌∷◌
 use Rattle.mt_rows.specs.Rows.{Bytes}
 use Rattle.mt_wire.specs.{declared.message.Request.Request, declared.message.Request.TheVariants.{Open, Call, Settle, GetStamped}, declared.message.WireReply.WireReply}
 use Rattle.mt_crew.specs.{Servings.IsServed, declared.crew.Served.Served}
-use Rattle.mt_session.specs.{declared.ended.Ended.Ended, declared.ended.ServeFault.ServeFault, Exchanges.Exchange, Sessions.{CallerRelation, IsReply, IsStuck, AreReplies}}
+use Rattle.mt_caller.specs.Exchanges.{Exchange, CallerRelation}
+use Rattle.mt_session.specs.{declared.ended.Ended.Ended, declared.ended.ServeFault.ServeFault, Sessions.{IsReply, IsStuck, AreReplies}}
 use Rattle.mt_session.specs.Endings.{EndsAs, Serves, AsksAtMostOne}
 use Rattle.mt_service.specs.Sessions.{IsSession, Within}
 use Rattle.mt_session.specs.declared.ended.Ended.TheVariants as ends

@@ -11,7 +11,7 @@ use Rattle.mt_core.specs.Restores.{IsIdle}
 use Rattle.mt_history.{specs.Legal.{Along, IsLegal, last_from, EndsWith}, proofs.Fronts.prefix_trans}
 use Rattle.mt_book.{specs.{declared.shared.Clerk.Clerk, Happens.{Happening, Acted, Given, Leads, Adds}, Periods.{Period, Took}, Calls.{Asked, Calls}, OneRun.AreTold, Serves.{ClerkView, Serves, clerk_of}}, proofs.OneRuns.one_run}
 use Rattle.mt_orders.{specs.{Stories.{ids_at, story_along}, Explained.{HappensAt, IsTakenAt}}, proofs.{Explaining.explained, Calling.{answered_in, calls_views}, Preceding.rises}}
-use Rattle.mt_session.specs.Exchanges.{Settles as SettlesFor}
+use Rattle.mt_caller.specs.Exchanges.{Settles as SettlesFor}
 use Rattle.mt_store_logs.specs.{declared.store_log.StoreLog.StoreLog, declared.last_log.LastLog.LastLog, Places.worker_of, Flushes.{DrainsShort, FailsToDrain, FailsToFlush}, LogTurns.{BringsUp, FailsToBringUp}}
 use Rattle.mt_settle.specs.{Turns.{Turn, BroughtUp, Chain}, Settles.{turns_from, Settles}}
 use Rattle.mt_stored.specs.{declared.shared.SharedLogs.SharedLogs, Shared.{Seen, gives_batch, UptoSteps, DoesShared}}

@@ -7,8 +7,8 @@ use Rattle.mt_options.specs.{declared.tenants.TenantQuota.TenantQuota, Tenants.I
 use Rattle.mt_book.specs.{declared.calls.CallFault.CallFault, Periods.Period, Calls.{Calls, asked_by, answers_of}}
 use Rattle.mt_settle.specs.{Turns.Turn, Settles.Settles}
 use Rattle.mt_stored.specs.{Keeping.{Kept, Counts}, Checkpoints.seen_after}
-use Rattle.mt_session.specs.{declared.caller.CallerFault.CallerFault, declared.caller.CallerFault.TheVariants.Refused}
-use Rattle.mt_session.specs.Exchanges.{Exchange, Opens, Calls as CallsFor, Settles as SettlesFor}
+use Rattle.mt_caller.specs.{declared.caller.CallerFault.CallerFault, declared.caller.CallerFault.TheVariants.Refused}
+use Rattle.mt_caller.specs.Exchanges.{Exchange, Opens, Calls as CallsFor, Settles as SettlesFor}
 use Rattle.mt_service.specs.Telling.{told_of}
 
 -- a caller between two exchanges: its desk, its pass with the last step that it knows of and the answers that it counts, the tenants that are

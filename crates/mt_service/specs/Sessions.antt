@@ -8,7 +8,8 @@ use Rattle.mt_history.specs.{Legal.Along, Views.MarkView}
 use Rattle.mt_book.specs.{declared.passes.Pass.Pass, declared.shared.Clerk.Clerk, Happens.{Happening, Leads}, Periods.Period, OneRun.Through, Serves.{Serves, clerk_of}}
 use Rattle.mt_orders.specs.Explained.{IsExplained}
 use Rattle.mt_crew.specs.{Servings.IsServed, declared.crew.Served.Served}
-use Rattle.mt_session.specs.{Sessions.{CallerRelation, Transcript}, Endings.AsksAtMostOne}
+use Rattle.mt_caller.specs.Exchanges.{CallerRelation}
+use Rattle.mt_session.specs.{Sessions.Transcript, Endings.AsksAtMostOne}
 use Rattle.mt_options.specs.declared.tenants.TenantQuota.{TenantQuota}
 use Rattle.mt_settle.specs.Turns.{Turn}
 use Rattle.mt_stored.specs.{declared.shared.SharedLogs.SharedLogs, Checkpoints.Scanner, Digests.DigestCall, Keeping.keeping, Shared.{LearnsSeen, DoesShared}}

@@ -3,9 +3,9 @@ use Rattle.std.specs.Prelude.{Result, Ok, Err}
 use Rattle.mt_rows.specs.{declared.reply.Reply.Reply, declared.refusal.Refusal.TheVariants.Spent}
 use Rattle.mt_runs.specs.declared.event.Answer.{Answer}
 use Rattle.mt_book.specs.declared.calls.CallFault.{CallFault}
-use Rattle.mt_session.specs.declared.caller.CallerFault.{CallerFault}
+use Rattle.mt_caller.specs.declared.caller.CallerFault.{CallerFault}
 use Rattle.mt_book.specs.declared.calls.CallFault.TheVariants as faults
-use Rattle.mt_session.specs.declared.caller.CallerFault.TheVariants as callers
+use Rattle.mt_caller.specs.declared.caller.CallerFault.TheVariants as callers
 
 -- the reply of its answer, or the refusal; Spent if all step numbers are given
 abbrev pub told_of : Result Answer CallFault → Result Reply CallerFault

@@ -12,7 +12,7 @@ ghost use Rattle.mt_orders.specs.Stories.{story_along, maps_in};
 ghost use Rattle.mt_slots.specs.declared.store_slots.StoreSlots.{StoreSlots};
 ghost use Rattle.mt_settle.specs.{Turns.Turn, Settles.Settles};
 ghost use Rattle.mt_stored.specs.{declared.shared.SharedLogs.SharedLogs, Shared.DoesShared, Checkpoints.{Scanner, WritesCheckpoint}, Digests.FileDigest};
-ghost use Rattle.mt_session.specs.Exchanges.{Settles as SettlesFor};
+ghost use Rattle.mt_caller.specs.Exchanges.{Settles as SettlesFor};
 ghost use Rattle.mt_service.specs.{declared.callers.DeskCaller.DeskCaller, Sessions.{acts, AsksBook, Within, SeesFront}, CheckpointScans.AreMadeBetween};
 
 use mt_disk::Disk;

@@ -4,8 +4,9 @@ use Rattle.std.proofs.Common.{◌≡◌, Bool, true, false, List, [], ◌∷◌,
 use Rattle.mt_rows.specs.Rows.{Bytes}
 use Rattle.mt_wire.specs.{declared.message.Request.Request, declared.message.Request.TheVariants.{Open, Call, Settle, GetStamped}}
 use Rattle.mt_wire.specs.declared.message.WireReply.{WireReply}
-use Rattle.mt_session.specs.{declared.ended.Ended.Ended, declared.ended.ServeFault.ServeFault, Exchanges.Exchange}
-use Rattle.mt_session.specs.{Sessions.{CallerRelation, IsReply, IsStuck, AreReplies, Transcript}, Endings.{AsksAtMostOne, EndsAs, Serves}}
+use Rattle.mt_caller.specs.Exchanges.{Exchange, CallerRelation}
+use Rattle.mt_session.specs.{declared.ended.Ended.Ended, declared.ended.ServeFault.ServeFault}
+use Rattle.mt_session.specs.{Sessions.{IsReply, IsStuck, AreReplies, Transcript}, Endings.{AsksAtMostOne, EndsAs, Serves}}
 use Rattle.mt_session.specs.declared.ended.Ended.TheVariants as ends
 use Rattle.mt_session.specs.declared.ended.ServeFault.TheVariants as faults
 

@@ -9,7 +9,7 @@ use Rattle.mt_wire.specs.{declared.message.Request.Request, declared.message.Req
 use Rattle.mt_wire.specs.{declared.message.WireReply.WireReply, declared.message.WireReply.TheVariants.Told, Fronts.IsReadingEnd, Replies.reply_spelling}
 use Rattle.mt_wire.specs.Asked.{shown_as}
 use Rattle.mt_wire.proofs.{FrameLaws.one_reading, RequestLaws.requests}
-use Rattle.mt_session.specs.{declared.caller.CallerFault.CallerFault, declared.caller.CallerFault.TheVariants.{Refused, Stuck}}
+use Rattle.mt_caller.specs.{declared.caller.CallerFault.CallerFault, declared.caller.CallerFault.TheVariants.{Refused, Stuck}}
 use Rattle.mt_session.specs.{declared.plain.PlainTenant.PlainTenant, Sessions.{IsReply, AreReplies, Transcript, call_told, open_told, open_after, settle_told}}
 use Rattle.mt_session.specs.Plain.{PlainTenants, place_of, PlainOpens, TenantCalls, PlainCalls, PlainExchanges, IsAmple, next_number}
 

@@ -4,7 +4,8 @@ use Rattle.std.specs.Io.KnownBytes.{Consumes, Appends, IsAtEnd}
 use Rattle.mt_rows.specs.{Rows.Bytes, declared.refusal.Refusal.TheVariants.BadFrame}
 use Rattle.mt_wire.specs.{declared.message.Request.Request, declared.message.WireReply.WireReply, Requests.{spelling, IsSpellable}, Fronts.{IsPartial, IsBad}}
 use Rattle.mt_wire.specs.Replies.{reply_spelling}
-use Rattle.mt_session.specs.{declared.ended.Ended.Ended, declared.ended.ServeFault.ServeFault, Sessions.{CallerRelation, refused, IsReply, IsStuck, Transcript}}
+use Rattle.mt_caller.specs.Exchanges.{CallerRelation}
+use Rattle.mt_session.specs.{declared.ended.Ended.Ended, declared.ended.ServeFault.ServeFault, Sessions.{refused, IsReply, IsStuck, Transcript}}
 use Rattle.mt_session.specs.declared.ended.Ended.TheVariants as ends
 use Rattle.mt_session.specs.declared.ended.ServeFault.TheVariants as faults
 

@@ -4,8 +4,9 @@ use Rattle.mt_rows.specs.{declared.command.Command.Command, declared.reply.Reply
 use Rattle.mt_rows.specs.{declared.refusal.Refusal.Refusal, declared.refusal.Refusal.TheVariants.{NoTenant, NotOpen, NoStore}, Commands.{IsTaken, IsFirstFault}}
 use Rattle.mt_rows.specs.Maps.{reply_of, map_after}
 use Rattle.mt_wire.specs.{declared.message.WireReply.WireReply, declared.message.WireReply.TheVariants.Told}
-use Rattle.mt_session.specs.{declared.caller.CallerFault.CallerFault, declared.caller.CallerFault.TheVariants.{Refused, Stuck}}
-use Rattle.mt_session.specs.{declared.plain.PlainTenant.PlainTenant, Exchanges.{Exchange, Opens, Calls, Settles}}
+use Rattle.mt_caller.specs.{declared.caller.CallerFault.CallerFault, declared.caller.CallerFault.TheVariants.{Refused, Stuck}}
+use Rattle.mt_caller.specs.Exchanges.{Exchange, Opens, Calls, Settles}
+use Rattle.mt_session.specs.declared.plain.PlainTenant.{PlainTenant}
 use Rattle.mt_wire.specs.declared.message.Shown.TheVariants as shown
 
 -- tenants with their maps, the place of the one that is opened, and the number of the last command

@@ -5,12 +5,8 @@ use Rattle.mt_rows.specs.{declared.refusal.Refusal.TheVariants.{NotOpen, OpenTwi
 use Rattle.mt_wire.specs.{declared.message.Request.Request, declared.message.Request.TheVariants.{Open, Call, Settle, GetStamped}}
 use Rattle.mt_wire.specs.{declared.message.WireReply.WireReply, declared.message.WireReply.TheVariants.{Opened, Told, Settled, Refused}}
 use Rattle.mt_wire.specs.{Requests.{spelling, IsSpellable}, Replies.reply_spelling, Asked.shown_as}
-use Rattle.mt_session.specs.{declared.caller.CallerFault.CallerFault, Exchanges.{Exchange, Opens, Calls, Settles}}
-use Rattle.mt_session.specs.declared.caller.CallerFault.TheVariants as callers
-
--- what a caller may do: from a state, an exchange, and the state after it
-abbrev pub CallerRelation : Type 0 → Type 1
-CallerRelation S = S → Exchange → S → Type 0
+use Rattle.mt_caller.specs.{declared.caller.CallerFault.CallerFault, Exchanges.{Opens, Calls, Settles, CallerRelation}}
+use Rattle.mt_caller.specs.declared.caller.CallerFault.TheVariants as callers
 
 -- the reply that refuses for this reason
 abbrev pub refused : Refusal → WireReply

@@ -3,7 +3,7 @@
 ghost use Rattle.std.specs.Prelude.{◌≡◌, None};
 ghost use Rattle.mt_session.specs.Plain.{plain_tenants, place_of, TenantCalls, next_number};
 
-use crate::caller::{Caller, CallerFault};
+use mt_caller::{Caller, CallerFault};
 use mt_rows::{Command, PlainMap, Refusal, Reply};
 use std::alloc::Global;
 use std::marker::Model;

@@ -1,30 +1,19 @@
-//! Answering what has been read.
+//! One turn: the request at the front of the input, and its reply.
 
-ghost use Rattle.std.specs.Prelude.{◌≤◌, length, OnOk, IfSome, IfNone, Err, ◌⊎◌};
-ghost use Rattle.mt_session.specs.{Sessions.{IsReply, IsStuck, IsCall}, Turns.{IsTurn, IsRound, IsWritten}, Exchanges.Calls};
-ghost use Rattle.mt_session.specs.declared.caller.CallerFault.{CallerFault};
+ghost use Rattle.std.specs.Prelude.{IfSome, IfNone, Err};
+ghost use Rattle.mt_caller.specs.Exchanges.{Calls};
+ghost use Rattle.mt_session.specs.{Sessions.{IsReply, IsStuck, IsCall}, Turns.IsTurn};
+ghost use Rattle.mt_caller.specs.declared.caller.CallerFault.{CallerFault};
 ghost use Rattle.mt_streams.specs.Buffering.{Counts};
 
-use crate::caller::{Caller, CallerFault};
+use crate::answering::Stop;
 use crate::ended::ServeFault;
 use bytes::BytesMut;
+use mt_caller::{Caller, CallerFault};
 use mt_rows::{Command, Refusal};
-use mt_streams::{Sink, flush};
+use mt_streams::Sink;
 use mt_wire::{Front, Request, Shown, WireReply, decode, write_reply};
 use std::alloc::Global;
-
-/// What became of the front of the input.
-#[derive(Drop)]
-pub enum Turn {
-    /// A request was answered.
-    Answered,
-    /// It is less than a frame.
-    Waits,
-    /// It is no frame, and that was answered.
-    Bad,
-    /// A growth was refused to a command, or a command is stuck.
-    Memory,
-}
 
 // The reply to a request, and whether the session is opened then; none where a command is stuck.
 fn reply_to<C: Caller>(
@@ -87,84 +76,40 @@ fn call_for<C: Caller>(
     }
 }
 
-// Answers the request at the front of the input.
-fn answer_front<C: Caller, W: Sink>(
+/// Answers the request at the front of the input, or says why there is none to answer. It doesn't stop
+/// with `Full`.
+pub(crate) fn answer_front<C: Caller, W: Sink>(
     alloc: Global,
-    input: &mut BytesMut,
-    opened: &mut bool,
     caller: &mut C,
+    opened: &mut bool,
+    input: &mut BytesMut,
     output: &mut BytesMut,
     writer: &mut W,
-) -> Result<Turn, ServeFault>
+) -> Result<Option<Stop>, ServeFault>
     ensures turn { IsTurn C.exchanges input.old.items opened.old caller.old (W.contents writer.old) output.old.items result input.new.items opened.new caller.new (W.contents writer.new) output.new.items }
     ensures counts { Counts (W.failures writer.old) (W.failures writer.new) result }
 {
     match decode(alloc, input.as_slice()) {
-        Err(_) => Ok(Turn::Memory),
-        Ok(Front::Partial) => Ok(Turn::Waits),
+        Err(_) => Ok(Some(Stop::Memory)),
+        Ok(Front::Partial) => Ok(Some(Stop::Waits)),
         Ok(Front::Bad) => {
             match write_reply(&WireReply::refused(Refusal::BadFrame), output, writer) {
-                Ok(()) => Ok(Turn::Bad),
+                Ok(()) => Ok(Some(Stop::Refused)),
                 Err(_) => Err(ServeFault::Write),
             }
         }
         Ok(Front::Whole(request, len)) => {
             input.advance(len);
             match reply_to(alloc, caller, *opened, request) {
-                None => Ok(Turn::Memory),
+                None => Ok(Some(Stop::Memory)),
                 Some((reply, is_open)) => {
                     *opened = is_open;
                     match write_reply(&reply, output, writer) {
-                        Ok(()) => Ok(Turn::Answered),
+                        Ok(()) => Ok(None),
                         Err(_) => Err(ServeFault::Write),
                     }
                 }
             }
         }
-    }
-}
-
-/// Answers the whole requests of the input, one after the other, until none is left. It doesn't end
-/// with `Answered`.
-pub(crate) fn answer_some<C: Caller, W: Sink>(
-    alloc: Global,
-    input: &mut BytesMut,
-    opened: &mut bool,
-    caller: &mut C,
-    output: &mut BytesMut,
-    writer: &mut W,
-) -> Result<Turn, ServeFault>
-    ensures round { IsRound C.exchanges input.old.items opened.old caller.old (W.contents writer.old) output.old.items result input.new.items opened.new caller.new (W.contents writer.new) output.new.items }
-    ensures held { OnOk result (length output.old.items ≤ 65536 → length output.new.items ≤ 65536) }
-    ensures counts { Counts (W.failures writer.old) (W.failures writer.new) result }
-{
-    loop {
-        match answer_front(alloc, input, opened, caller, output, writer)? {
-            Turn::Answered => {}
-            Turn::Waits => return Ok(Turn::Waits),
-            Turn::Bad => return Ok(Turn::Bad),
-            Turn::Memory => return Ok(Turn::Memory),
-        }
-    }
-}
-
-/// Answers all whole requests of the input, and writes the answers: what the output has no room for
-/// at once, and the rest together. It ends with `Waits`, `Bad` or `Memory`.
-pub(crate) fn answer_all<C: Caller, W: Sink>(
-    alloc: Global,
-    input: &mut BytesMut,
-    opened: &mut bool,
-    caller: &mut C,
-    output: &mut BytesMut,
-    writer: &mut W,
-) -> Result<Turn, ServeFault>
-    ensures written { IsWritten C.exchanges input.old.items opened.old caller.old result input.new.items opened.new caller.new (W.contents writer.old) (W.contents writer.new) }
-    ensures counts { Counts (W.failures writer.old) (W.failures writer.new) result }
-{
-    output.clear();
-    let turn = answer_some(alloc, input, opened, caller, output, writer)?;
-    match flush(output, writer) {
-        Ok(()) => Ok(turn),
-        Err(_) => Err(ServeFault::Write),
     }
 }

@@ -1,7 +1,7 @@
 -- a command is begun and run by itself
 use Rattle.std.proofs.Common.{Ok, Err, sym, subst}
 use Rattle.mt_rows.specs.declared.refusal.Refusal.TheVariants.{Spent}
-use Rattle.mt_session.specs.declared.caller.CallerFault.TheVariants.{Refused}
+use Rattle.mt_caller.specs.declared.caller.CallerFault.TheVariants.{Refused}
 use Rattle.mt_alone.{specs.{declared.runs.Unfinished.Unfinished, Runs.Finishes, Callers.Answers}, proofs.Callers.{answers_refused, answers_done, answers_stuck, answers_spent, idle_before}}
 use Rattle.mt_alone.proofs.alone.answer.Goals as goal
 

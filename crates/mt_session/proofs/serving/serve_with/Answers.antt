@@ -1,9 +1,9 @@
-use Rattle.std.proofs.{Common.{◌≡◌, ◌+◌, [], sym, subst, ◌∙◌, inl, inr, arith}, lemmas.Bool.eqb-true, lemmas.List.nil_from_length}
+use Rattle.std.proofs.{Common.{◌+◌, [], sym, subst, ◌∙◌, inl, inr, arith}, lemmas.Bool.eqb-true, lemmas.List.nil_from_length}
 use Rattle.std.proofs.lemmas.Result.{err_from_is_err_and}
 use Rattle.mt_rows.specs.Rows.{Bytes}
 use Rattle.mt_wire.specs.Fronts.{IsPartial}
 use Rattle.mt_streams.proofs.FailureLemmas.{NoFewer-refl, NoFewer-trans, then-Failed}
-use Rattle.mt_session.proofs.Servings.{Serving, begins, partial_is_short, read_on, kept_on, round_on, is_closed, is_refused, fails, is_short_of_memory, write_fails}
+use Rattle.mt_session.proofs.Servings.{Serving, begins, partial_is_short, read_on, kept_on, round_on, is_closed, fails, round_ends, round_fails}
 use Rattle.mt_session.specs.declared.ended.ServeFault.TheVariants as faults
 use Rattle.mt_session.proofs.serving.serve_with.Goals as goal
 
@@ -44,36 +44,30 @@ pub returns : goal.returns
 returns g c =
     fails g.C.Caller.exchanges _ _ _ _ _ _ _ _ _ _ _ faults.Read c.loop.invariant.serving c.loop.invariant.partial (λ e. inr (omega arith)) (λ e. absurd cc)
 
-pub returns-in_err-answer_all : goal.returns-in_err-answer_all
-returns-in_err-answer_all g c =
-    let p = err_from_is_err_and c.from_residual-in_err-answer_all.result c.from_residual-in_err-answer_all.ensures.1 in
+pub returns-in_err-ended : goal.returns-in_err-ended
+returns-in_err-ended g c =
+    let p = err_from_is_err_and c.from_residual-in_err-ended.result c.from_residual-in_err-ended.ensures.1 in
     let (more, len, e, consumed) = c.in_ok-count.ensures.ok in
-    let (fault, text, bytes, mid, m, done, transcript, appended, part, one) = c.in_err-answer_all.ensures.written in
     let sv = read_on g.C.Caller.exchanges _ c.loop.counter _ _ _ _ _ _ _ _ more _ _ c.loop.invariant.serving consumed e (omega arith) in
-    rw (p.1, p.2, fault) (write_fails g.C.Caller.exchanges _ _ _ _ _ _ _ _ _ _ m _ _ bytes text done _ mid sv transcript appended part one (then-Failed _ _ _ c.loop.invariant.writer c.in_err-answer_all.ensures.counts))
+    let round = c.answer_all.new in
+    rw (p.1, p.2) (round_fails g.C.Caller.exchanges _ _ _ _ _ _ _ _ _ _ _ _ round.buffers.input.items _ round.opened c.in_err-ended.field-0.0 sv c.in_err-ended.ensures.written
+    (λ e. then-Failed _ _ _ c.loop.invariant.writer (c.in_err-ended.ensures.cause e)))
 
-pub returns-in-Bad : goal.returns-in-Bad
-returns-in-Bad g c =
+pub returns-in-Some : goal.returns-in-Some
+returns-in-Some g c =
     let (more, len, e, consumed) = c.in_ok-count.ensures.ok in
-    let (text, transcript, appended, bad) = rw c.in-Bad.is at c.in_ok-answer_all.ensures.written in
     let sv = read_on g.C.Caller.exchanges _ c.loop.counter _ _ _ _ _ _ _ _ more _ _ c.loop.invariant.serving consumed e (omega arith) in
-    is_refused g.C.Caller.exchanges _ _ _ _ _ _ _ _ _ _ _ _ _ text _ _ sv transcript bad appended
-
-pub returns-in-Memory : goal.returns-in-Memory
-returns-in-Memory g c =
-    let (more, len, e, consumed) = c.in_ok-count.ensures.ok in
-    let (text, bytes, mid, m, transcript, appended, one) = rw c.in-Memory.is at c.in_ok-answer_all.ensures.written in
-    let sv = read_on g.C.Caller.exchanges _ c.loop.counter _ _ _ _ _ _ _ _ more _ _ c.loop.invariant.serving consumed e (omega arith) in
-    is_short_of_memory g.C.Caller.exchanges _ _ _ _ _ _ _ _ _ _ m _ _ bytes text _ mid sv transcript appended one
+    let round = c.answer_all.new in
+    round_ends g.C.Caller.exchanges _ _ _ _ _ _ _ _ _ _ _ _ round.buffers.input.items _ round.opened c.in-Some.ended sv (rw c.in-Some.is at c.in_ok-ended.ensures.written)
 
 pub loop-preserved : goal.loop-preserved
 loop-preserved g c =
     let (more, len, e, consumed) = c.in_ok-count.ensures.ok in
-    let (text, transcript, appended, partial) = rw c.in-Waits.is at c.in_ok-answer_all.ensures.written in
+    let (text, transcript, appended, partial) = rw c.in_default.is at c.in_ok-ended.ensures.written in
     let sv = read_on g.C.Caller.exchanges _ (c.loop.counter + 1) _ _ _ _ _ _ _ _ more _ _ c.loop.invariant.serving consumed e (omega arith) in
     record {
       serving = round_on g.C.Caller.exchanges _ _ _ _ _ _ _ _ _ _ _ text _ _ sv transcript appended;
       partial = partial;
       reader = NoFewer-trans _ _ _ c.loop.invariant.reader c.in_ok-count.ensures.failures;
-      writer = NoFewer-trans _ _ _ c.loop.invariant.writer c.in_ok-answer_all.ensures.counts;
+      writer = NoFewer-trans _ _ _ c.loop.invariant.writer c.in_ok-ended.ensures.failures;
     }
