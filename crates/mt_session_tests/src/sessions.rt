@@ -8,12 +8,15 @@ use crate::books::{Booked, Restored};
 use crate::framing::framed;
 use crate::hexadecimal::{bytes_of, many};
 use crate::pieces::{ALL, streams};
-use crate::rows::{COMMAND_STAMPS, LAST_ROWS, ROWS, STEP_STAMPS};
+use crate::rows::{COMMAND_STAMPS, LAST_ROWS, ROWS, STEP_STAMPS, row_of};
 use crate::ways::{TestServer, Way, name_of, session, wrong_row};
+use bytes::BytesMut;
 use log::Log;
 use mt_alone::{Alone, serve_alone, serve_tenants};
 use mt_rows::{PlainMap, Tenants};
-use mt_session::{Ended, PlainCaller, PlainTenant, ServeFault, SessionBuffers, serve, serve_with};
+use mt_session::{
+    Ended, PlainCaller, PlainTenant, ServeFault, SessionBuffers, Stop, answer, serve, serve_with,
+};
 use mt_streams::{Sink, Source};
 use mt_wire::{ReplyFront, decode_reply};
 use std::alloc::{AllocError, Global};
@@ -131,6 +134,45 @@ fn an_interruption_ends_no_session(rt: HostRuntime) {
 #[test]
 fn each_reply_is_written_before_the_next_request_is_read(rt: HostRuntime) {
     expect_rows(&rt, rt.alloc(), Way::InTurns);
+}
+
+// What calls of `answer` tell, a request each, of bytes that come cut in two; none where memory is refused.
+fn told_by_calls(alloc: Global, asked: &[u8], cut: usize) -> Option<Vec<u8>> {
+    let mut caller = plain_tenants(alloc).ok()?;
+    let (mut input, mut output) = (BytesMut::new(alloc), BytesMut::new(alloc));
+    let (mut told, mut opened) = (Vec::new(alloc), false);
+    let (front, rest) = asked.split_at(cut.min(asked.len()));
+    for piece in [front, rest] {
+        input.extend_from_slice(piece).ok()?;
+        for _ in 0..asked.len() + 1 {
+            match answer(
+                alloc,
+                &mut caller,
+                &mut opened,
+                &mut input,
+                &mut output,
+                &mut told,
+                1,
+            ) {
+                Ok(Stop::Full) => {}
+                Ok(Stop::Waits) => break,
+                _ => return Some(told),
+            }
+        }
+    }
+    Some(told)
+}
+
+#[test]
+fn calls_tell_what_a_session_tells(rt: HostRuntime) {
+    let alloc = rt.alloc();
+    for text in ROWS {
+        let row = row_of(alloc, text).expect(&rt, "row");
+        for cut in 0..row.asked.len() + 1 {
+            let told = told_by_calls(alloc, &row.asked, cut).expect(&rt, "memory");
+            assert!(rt; told.as_slice() == row.told.as_slice(), "{text} {cut}");
+        }
+    }
 }
 
 // Tenant 7 is opened.
