@@ -34,7 +34,17 @@ impl<T: Drop> BatonLock<T> {
     }
 
     /// The lock, which looks a hundred times before it sleeps.
+    #[inline(always)]
     pub fn locked<R: Wait>(&self, rt: &R) -> MutexGuard<'_, T> {
+        match self.value.try_lock() {
+            Some(guard) => guard,
+            None => self.awaited(rt),
+        }
+    }
+
+    // The lock, which another one has.
+    #[inline(never)]
+    fn awaited<R: Wait>(&self, rt: &R) -> MutexGuard<'_, T> {
         self.value.lock(rt)
     }
 }

@@ -106,6 +106,7 @@ impl<L: Ledger> Desk<L> for Book<L> {
 pub type BookLock<L, J> = BatonLock<Kept<L, J>>;
 
 // The lock. What stands behind it is right, whenever it is free, and the history ends with it.
+#[inline(always)]
 fn locked<'a, L: Ledger, J: Naming, R: Wait + Clock>(
     rt: &R,
     shared: &'a BookLock<L, J>,
