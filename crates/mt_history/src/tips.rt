@@ -96,6 +96,7 @@ impl<S, F: Follows<S>, J: Naming> Tip<S, F, J> {
 
     /// Adds a state that follows the last one. The mark has then seen all of it; what it had seen before is a
     /// beginning of what was there. A history that others had added to would be waited for for ever.
+    #[inline(always)]
     pub fn add<R: Wait>(&mut self, rt: &R, mark: &mut Mark<S, F, J>, state: &S)
         requires { MayFollow F.follows self.old state.now }
         ensures adds { self.new ≡ self.old ++ state.now ∷ [] }
