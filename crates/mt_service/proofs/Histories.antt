@@ -1,11 +1,11 @@
 -- The history of which all callers came back is one, and one order explains it: for the server.
-use Rattle.std.{proofs.Common.{◌≡◌, ℕ, ◌%◌, inl, inr, Bool, List, [], ◌∷◌, length, Option, Some, None, Result, Ok, Err, IfOk, OnOk, refl, sym, ap, subst}, proofs.lemmas.Option.none-some, proofs.lemmas.List.append-nil, specs.List.{AllByRecursion, AllZip, flat_map}}
+use Rattle.std.{proofs.Common.{◌≡◌, ◌∙◌, ℕ, ◌+◌, ◌%◌, arith, inl, inr, Bool, List, [], ◌∷◌, length, Option, Some, None, Result, Ok, Err, IfOk, OnOk, refl, sym, ap, subst}, proofs.lemmas.Option.none-some, proofs.lemmas.List.append-nil, proofs.lemmas.List.Sums.sum_by-cons, specs.List.{AllByRecursion, AllZip, flat_map, sum_by}}
 use mathlib.Core.List.{IsPrefix}
 use Rattle.mt_disk.specs.Disk.{DiskState}
 use Rattle.mt_rows.specs.{declared.command.Command.Command, declared.reply.Reply.Reply, declared.refusal.Refusal.Refusal}
 use Rattle.mt_runs.specs.declared.event.Answer.{Answer}
 use Rattle.mt_state.specs.Views.{StateView}
-use Rattle.mt_history.proofs.Fronts.{prefix_trans}
+use Rattle.mt_history.{specs.Legal.last_from, proofs.Fronts.{prefix_trans}}
 use Rattle.mt_book.{specs.{declared.calls.CallFault.CallFault, declared.shared.Clerk.Clerk, Periods.Period, OneRun.AreTold, Keeping.IsWhole, Serves.clerk_of}, proofs.OneRuns.one_run}
 use Rattle.mt_orders.proofs.{Explaining.explained, Calling.{calls_views, chain_front}}
 use Rattle.mt_crew.specs.{Servings.IsServed, declared.crew.Served.Served}
@@ -13,7 +13,7 @@ use Rattle.mt_caller.specs.{declared.caller.CallerFault.CallerFault, Exchanges.{
 use Rattle.mt_options.specs.declared.tenants.TenantQuota.{TenantQuota}
 use Rattle.mt_settle.specs.Turns.{Turn}
 use Rattle.mt_stored.specs.{declared.shared.SharedLogs.SharedLogs, Checkpoints.Scanner, Digests.DigestCall, Keeping.{Kept, GivesTurns}}
-use Rattle.mt_service.specs.{declared.callers.DeskCaller.DeskCaller, declared.workers.SessionWorker.SessionWorker, Sessions.{AsksBook, IsSession, HaveOneHistory, SeesFront, LogsSeeFront, SeeFronts, acts, turns, logs_of, asker_of, clerks_in}, Beginnings.{IsNewWorker, IsNewTurner}, Workers.EachAt, Asking.{Asker, AsksOpened, KeepsAnswer, OpensTenant}, Turning.Turning, Turners.Leaves}
+use Rattle.mt_service.specs.{declared.callers.DeskCaller.DeskCaller, declared.workers.SessionWorker.SessionWorker, Sessions.{AsksBook, IsSession, HaveOneHistory, SeesFront, LogsSeeFront, SeeFronts, acts, turns, logs_of, asker_of, clerks_in, answers_in, all_clerks}, Beginnings.{IsNewWorker, IsNewTurner}, Workers.EachAt, Asking.{Asker, AsksOpened, KeepsAnswer, OpensTenant}, Turning.Turning, Turners.Leaves}
 use Rattle.mt_service.proofs.{Sessions.served_inside, SettledNumbers.{turn_front, settle_front}, TurnFronts.any_front, TurnsInside.leaves_inside}
 
 no_told : (s : StateView) (log : List StateView) → AreTold (λ k. None) s log
@@ -95,10 +95,10 @@ module _ (L J R : Type 0) {D : Type 0} (K : Type 0) (is_honest : D → Bool) (st
     prefix_trans (shared_log old.keeper.logs) (shared_log new.keeper.logs) history (logs_grow old new e x) front.1,
   )
 
--- what holds of a result's value is enough for what it leads to
-pub on_value : {A E : Type 0} (r : Result A E) (P : A → Type 0) (Q : Type 0) → IfOk r P → ((a : A) → P a → Q) → OnOk r Q
-on_value (Ok a) P Q holds leads = leads a holds
-on_value (Err e) P Q holds leads = tt
+-- what holds of a result's value, twice, is enough for what it leads to
+pub on_values : {A E : Type 0} (r : Result A E) (P R : A → Type 0) (Q : Type 0) → IfOk r P → IfOk r R → ((a : A) → P a → R a → Q) → OnOk r Q
+on_values (Ok a) P R Q holds more leads = leads a holds more
+on_values (Err e) P R Q holds more leads = tt
 
 tail : {C : Type 0} (P : C → Type 0) (c : C) (cs : List C) → AllByRecursion P (c ∷ cs) → AllByRecursion P cs
 tail P c cs all = all.1
@@ -136,6 +136,14 @@ module _ (L J R : Type 0) {D : Type 0} (is_honest : D → Bool) (state : D → D
       let is = new.book.clerk.mark in
       prefix_trans was.log is.log history (any_front is_honest state failures was turn is t) front
 
+  -- the clerk that began the history looked once
+  all_added : (one turner logs : Clerk L J) (rest : List (Clerk L J)) → one.mark.made ≡ 0 → (n : ℕ)
+      → n ≡ sum_by (λ (c : Clerk L J). c.mark.made) (one ∷ turner ∷ logs ∷ rest) + length (one ∷ turner ∷ logs ∷ rest)
+      → n ≡ sum_by (λ (c : Clerk L J). c.mark.made) (turner ∷ logs ∷ rest) + length (turner ∷ logs ∷ rest) + 1
+  all_added one turner logs rest none n is =
+      let sum = sum_by-cons (λ (c : Clerk L J). c.mark.made) one (turner ∷ logs ∷ rest) in
+      omega (arith, is, none, sum)
+
   -- all that the sessions of these workers were told stands in one history from the state that the first clerk has seen, with all that a turner did
   pub one_history : {G : Type 0} (calls : G → DigestCall → G → Type 0) (digests : G) (tenants : List TenantQuota) (one turner logs : Clerk L J) (begun : List Worker) (served : List (Served Worker))
       (answers workers log_count : ℕ) → IsWhole (λ (c : Clerk L J). c.mark) (one ∷ turner ∷ logs ∷ flat_map clerks_in served) answers
@@ -143,8 +151,9 @@ module _ (L J R : Type 0) {D : Type 0} (is_honest : D → Bool) (state : D → D
       → length begun ≡ workers → EachAt begun (IsNewWorker log_count tenants)
       → (made : Turning (Clerk L J) (SharedLogs L J R D) G) → IsNewTurner log_count digests made → (desk : Scanner (Clerk L J)) (left : SharedLogs L J R D)
       → Leaves acts is_honest state failures (turns is_honest state failures) logs_of calls tenants made desk left → turner ≡ desk.desk → logs ≡ left.book.clerk
-      → (first : StateView) → one.mark.log ≡ first ∷ [] → HaveOneHistory L J R is_honest state failures calls digests tenants workers log_count first
-  one_history calls digests tenants one turner logs begun served answers workers log_count w z many new made fresh desk left turned same_clerk same_logs first is =
+      → answers ≡ desk.counted + answers_in served
+      → (first : StateView) → one.mark.log ≡ first ∷ [] → one.mark.made ≡ 0 → HaveOneHistory L J R is_honest state failures calls digests tenants workers log_count first
+  one_history calls digests tenants one turner logs begun served answers workers log_count w z many new made fresh desk left turned same_clerk same_logs shares first is none =
       let whole = w.first ∷ w.log in
       let P : Clerk L J → Type 0 = SeesFront whole in
       let after_one = tail P one (turner ∷ logs ∷ flat_map clerks_in served) w.seen in
@@ -175,4 +184,8 @@ module _ (L J R : Type 0) {D : Type 0} (is_honest : D → Bool) (state : D → D
             leaves_inside acts is_honest state failures (turns is_honest state failures) calls (SeesFront whole) (clerk_before whole) (LogsSeeFront whole) (logs_before whole) logs_of tenants made desk left turned
             desk_front logs_front;
         seen = (desk_front, logs_front);
+        added =
+            all_added one turner logs (flat_map clerks_in served) none (length w.log) w.added
+            ∙ cc (same_clerk, same_logs);
+        taken = w.taken ∙ shares;
       })

@@ -1,10 +1,10 @@
 -- What a worker's sessions asked its caller, and the history in which all that they were told stands.
-use Rattle.std.specs.{Prelude.{◌≡◌, ℕ, Bool, true, false, List, [], ◌∷◌, length, min}, List.AllZip}
+use Rattle.std.specs.{Prelude.{◌≡◌, ◌+◌, ℕ, Bool, true, false, List, [], ◌∷◌, length, min}, List.{AllZip, flat_map, sum_by}}
 use mathlib.Core.List.{IsPrefix}
 use Rattle.mt_rows.specs.Rows.{Bytes}
 use Rattle.mt_disk.specs.Disk.{DiskState}
 use Rattle.mt_state.specs.Views.{StateView}
-use Rattle.mt_history.specs.{Legal.Along, Views.MarkView}
+use Rattle.mt_history.specs.{Legal.{Along, last_from}, Views.MarkView}
 use Rattle.mt_book.specs.{declared.passes.Pass.Pass, declared.shared.Clerk.Clerk, Happens.{Happening, Leads}, Periods.Period, OneRun.Through, Serves.{Serves, clerk_of}}
 use Rattle.mt_orders.specs.Explained.{IsExplained}
 use Rattle.mt_crew.specs.{Servings.IsServed, declared.crew.Served.Served}
@@ -40,6 +40,13 @@ pass_in served = served.worker.caller.pass
 
 abbrev pub clerks_in : {L J R D : Type 0} → Served (SessionWorker L J R D) → List (Clerk L J)
 clerks_in served = served.worker.caller.desk ∷ served.worker.caller.keeper.logs.book.clerk ∷ []
+
+-- what workers came back with: the answers of their passes, and all clerks with the turner's two
+abbrev pub answers_in : {L J R D : Type 0} → List (Served (SessionWorker L J R D)) → ℕ
+answers_in served = sum_by (λ one. (pass_in one).share.amount) served
+
+abbrev pub all_clerks : {L J R D : Type 0} → Clerk L J → Clerk L J → List (Served (SessionWorker L J R D)) → List (Clerk L J)
+all_clerks desk logs served = desk ∷ logs ∷ flat_map clerks_in served
 
 -- A session over a caller. The requests of the bytes that were read were asked in their order, and then at most one more, of which nobody was told. If the session
 -- ended as it should, all bytes were requests that were answered.
@@ -80,7 +87,8 @@ LeavesOver is_honest state failures calls tenants history turner desk logs =
 
 -- One history from a state on. There is a run through it, and one order explains whichever there is. So many new workers, with so many logs, were led by sessions, and
 -- each exchange of these was made over a beginning of the history. A new turner was led to what is left of it. Each of its periods, so each look and scan, was made over
--- one too.
+-- one too. These clerks added each state of the history but the first, and but a last look of each and of the clerk that began it. So many answers were taken as the
+-- passes came back with.
 pub record HaveOneHistory (L J R : Type 0) {D G : Type 0} (is_honest : D → Bool) (state : D → DiskState) (failures : D → ℕ) (calls : G → DigestCall → G → Type 0) (digests : G) (tenants : List TenantQuota) (workers log_count : ℕ) (first : StateView) : Type 0 where
   pub log : List StateView
   pub legal : Along Leads first log
@@ -98,3 +106,5 @@ pub record HaveOneHistory (L J R : Type 0) {D G : Type 0} (is_honest : D → Boo
   pub logs : SharedLogs L J R D
   pub turned : LeavesOver is_honest state failures calls tenants (first ∷ log) turner desk logs
   pub seen : SeesFront (first ∷ log) desk.desk × LogsSeeFront (first ∷ log) logs
+  pub added : length log ≡ sum_by (λ (c : Clerk L J). c.mark.made) (all_clerks desk.desk logs.book.clerk served) + length (all_clerks desk.desk logs.book.clerk served) + 1
+  pub taken : (last_from first log).answers ≡ desk.counted + answers_in served

@@ -138,7 +138,7 @@ fn begun<L: Ledger, J: Naming>(
 ) -> Result<(BookLock<L, J>, Mark<State, Periods, J>), ServerFault>
     requires names { AreNames L.name L.parts J.name J.parts J.book names state }
     requires unasked { IsUnasked state }
-    ensures first { IfOk result (λ r. r.1.log ≡ state ∷ []) }
+    ensures first { IfOk result (λ r. (r.1.log ≡ state ∷ []) × (r.1.made ≡ 0)) }
     ensures fault { IfErr result IsOfServing }
 {
     let mut kept = Kept::<L, J>::new(alloc, names, state);
@@ -246,7 +246,7 @@ fn serve_all<
     digests: G,
 ) -> Result<Totals, ServerFault>
     requires parts { L.parts ≡ 65536 }
-    ensures history { OnOk result ((first : StateView) → mark.log ≡ first ∷ [] → HaveOneHistory L J R D.is_honest D.state D.failures G.does digests options.now.tenants.items options.now.workers (length logs.now) first) }
+    ensures history { OnOk result ((first : StateView) → mark.log ≡ first ∷ [] → mark.made ≡ 0 → HaveOneHistory L J R D.is_honest D.state D.failures G.does digests options.now.tenants.items options.now.workers (length logs.now) first) }
     ensures fault { IfErr result IsOfServing }
 {
     let workers = workers_of(rt, alloc, book, logs, turns, options)?;

@@ -1,13 +1,13 @@
 -- All callers came back, so one history has all that was told.
-use Rattle.std.{proofs.Common.{◌≡◌, ◌∙◌, ◌∷◌, List, Bool, length, IfOk, ap, subst, arith}, specs.List.{flat_map, AllZip}}
+use Rattle.std.{proofs.Common.{◌≡◌, ◌∙◌, ◌∷◌, ◌+◌, List, Bool, length, IfOk, ap, subst, arith}, specs.List.{flat_map, AllZip}}
 use Rattle.mt_options.specs.declared.tenants.TenantQuota.{TenantQuota}
 use Rattle.mt_state.specs.Views.{StateView}
 use Rattle.mt_history.specs.Views.{MarkView}
-use Rattle.mt_book.specs.{declared.shared.Clerk.Clerk, Keeping.IsWhole}
+use Rattle.mt_book.specs.{declared.passes.Pass.Pass, declared.shared.Clerk.Clerk, Keeping.IsWhole}
 use Rattle.mt_crew.specs.Servings.{IsServed}
 use Rattle.mt_stored.specs.Checkpoints.{scanner}
-use Rattle.mt_service.specs.{declared.workers.SessionWorker.SessionWorker, Sessions.{IsSession, AsksBook, acts, turns, logs_of, clerks_in}, Turners.{turner_of, Leaves}}
-use Rattle.mt_service.proofs.Histories.{on_value, one_history}
+use Rattle.mt_service.specs.{declared.workers.SessionWorker.SessionWorker, Sessions.{IsSession, AsksBook, acts, turns, logs_of, clerks_in, answers_in}, Turners.{turner_of, Leaves}}
+use Rattle.mt_service.proofs.Histories.{on_values, one_history}
 use Rattle.mt_service.proofs.running.serve_all.Goals as goal
 
 pub returns-in-Ok-clause-history : goal.returns-in-Ok-clause-history
@@ -25,8 +25,11 @@ returns-in-Ok-clause-history g c =
     let turned = subst (λ (ts : List TenantQuota). Leaves acts g.D.Disk.is_honest g.D.Disk.state g.D.Disk.failures (turns g.D.Disk.is_honest g.D.Disk.state g.D.Disk.failures) logs_of g.G.Digests.does ts made desk parts.2)
     c.in_ok-turner.ensures.tenants c.serve_beside-parts.ensures.turner in
     let many : length workers.items ≡ c.args.options.now.workers = omega (arith, c.in_ok-workers.ensures.workers, workers.ok.0) in
-    on_value c.totals_of.result
-    (λ totals. IsWhole (λ (k : Clerk g.row.L.Denot g.row.J.Denot). k.mark) (c.new-first.result ∷ c.new.result.clerk ∷ c.new.result.logs ∷ flat_map clerks_in served.items) totals.answers) _ c.totals_of.ensures.whole
-    (λ totals whole first is.
+    on_values c.totals_of.result
+    (λ totals. IsWhole (λ (k : Clerk g.row.L.Denot g.row.J.Denot). k.mark) (c.new-first.result ∷ c.new.result.clerk ∷ c.new.result.logs ∷ flat_map clerks_in served.items) totals.answers)
+    (λ totals. totals.answers ≡ c.new.result.pass.share.amount + answers_in served.items) _ c.totals_of.ensures.whole c.totals_of.ensures.answers
+    (λ totals whole shares first is none.
     one_history g.row.L.Denot g.row.J.Denot g.row.R.Denot g.D.Disk.is_honest g.D.Disk.state g.D.Disk.failures g.G.Digests.does c.args.digests tenants c.new-first.result c.new.result.clerk c.new.result.logs workers.items served.items
-    totals.answers c.args.options.now.workers (length c.args.logs.now) whole zip many c.in_ok-workers.ensures.each made c.in_ok-turner.ensures.own desk parts.2 turned c.new.ensures.clerk c.new.ensures.logs first (ap (λ (m : MarkView StateView). m.log) c.new-first.ensures.mark ∙ is))
+    totals.answers c.args.options.now.workers (length c.args.logs.now) whole zip many c.in_ok-workers.ensures.each made c.in_ok-turner.ensures.own desk parts.2 turned c.new.ensures.clerk c.new.ensures.logs
+    (shares ∙ ap (λ (p : Pass g.row.L.Denot). p.share.amount + answers_in served.items) c.new.ensures.pass) first (ap (λ (m : MarkView StateView). m.log) c.new-first.ensures.mark ∙ is)
+    (ap (λ (m : MarkView StateView). m.made) c.new-first.ensures.mark ∙ none))
