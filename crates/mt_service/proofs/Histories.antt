@@ -24,7 +24,7 @@ front_same : {A : Type 0} (xs ys : List A) → ys ≡ xs → IsPrefix xs ys
 front_same xs ys is = subst (λ zs. IsPrefix xs zs) (sym is) ([], append-nil xs)
 
 -- what a worker's caller has seen of the book it has seen ever after
-module _ (L J R : Type 0) {D : Type 0} (K : Type 0) (is_honest : D → Bool) (state : D → DiskState) (failures : D → ℕ) where
+module _ (L J R : Type 0) {D : Type 0} (K : Type 0) (is_honest : D → Bool) (state : D → DiskState) (failures : D → ℕ) (was_refused : D → Bool) where
   abbrev Caller : Type 0
   Caller = DeskCaller L R (Clerk L J) (SharedLogs L J R D) K
 
@@ -40,7 +40,7 @@ module _ (L J R : Type 0) {D : Type 0} (K : Type 0) (is_honest : D → Bool) (st
   call_grows old new None keeps logs command told x =
       front_same old.desk.mark.log new.desk.mark.log (ap (λ (a : Asker (Clerk L J) (SharedLogs L J R D)). a.desk.mark.log) x.1)
 
-  grows : (old new : Caller) (e : Exchange) → AsksBook is_honest state failures old e new → IsPrefix old.desk.mark.log new.desk.mark.log
+  grows : (old new : Caller) (e : Exchange) → AsksBook is_honest state failures was_refused old e new → IsPrefix old.desk.mark.log new.desk.mark.log
   grows old new (Opens tenant refusal) x =
       front_same old.desk.mark.log new.desk.mark.log (ap (λ (c : Clerk L J). c.mark.log) (opens_desk (asker_of old) (asker_of new) tenant refusal x))
   grows old new (Calls command told) x = call_grows old new old.opened _ _ command told x
@@ -53,17 +53,17 @@ module _ (L J R : Type 0) {D : Type 0} (K : Type 0) (is_honest : D → Bool) (st
   same_logs : (old new : Kept (SharedLogs L J R D)) → new.logs ≡ old.logs → IsPrefix (shared_log old.logs) (shared_log new.logs)
   same_logs old new is = front_same (shared_log old.logs) (shared_log new.logs) (ap shared_log is)
 
-  turns_grow : (old new : Kept (SharedLogs L J R D)) → GivesTurns (turns is_honest state failures) logs_of old new → IsPrefix (shared_log old.logs) (shared_log new.logs)
+  turns_grow : (old new : Kept (SharedLogs L J R D)) → GivesTurns (turns is_honest state failures was_refused) logs_of old new → IsPrefix (shared_log old.logs) (shared_log new.logs)
   turns_grow old new g =
-      let own = turn_front is_honest state failures old.worker g.own.0 old.logs.book.clerk.mark g.mid.book.clerk.mark g.own.1 in
+      let own = turn_front is_honest state failures was_refused old.worker g.own.0 old.logs.book.clerk.mark g.mid.book.clerk.mark g.own.1 in
       elim (g.other) [
         | inl (is, same) ↦ subst (λ logs. IsPrefix (shared_log old.logs) (shared_log logs)) (sym same) own
         | inr (ne, turn) ↦
             prefix_trans (shared_log old.logs) (shared_log g.mid) (shared_log new.logs) own
-            (turn_front is_honest state failures (old.next % logs_of old.logs) turn.0 g.mid.book.clerk.mark new.logs.book.clerk.mark turn.1)
+            (turn_front is_honest state failures was_refused (old.next % logs_of old.logs) turn.0 g.mid.book.clerk.mark new.logs.book.clerk.mark turn.1)
       ]
 
-  answer_grows : (old new : Kept (SharedLogs L J R D)) (result : Result Answer CallFault) → KeepsAnswer (turns is_honest state failures) logs_of old result new
+  answer_grows : (old new : Kept (SharedLogs L J R D)) (result : Result Answer CallFault) → KeepsAnswer (turns is_honest state failures was_refused) logs_of old result new
       → IsPrefix (shared_log old.logs) (shared_log new.logs)
   answer_grows old new (Ok answer) (inl on) = same_logs old new (ap (λ (k : Kept (SharedLogs L J R D)). k.logs) on.1)
   answer_grows old new (Ok answer) (inr (inl anew)) = same_logs old new (ap (λ (k : Kept (SharedLogs L J R D)). k.logs) anew.2)
@@ -77,19 +77,19 @@ module _ (L J R : Type 0) {D : Type 0} (K : Type 0) (is_honest : D → Bool) (st
   opens_logs old new tenant None x = ap (λ (a : Asking). a.kept.logs) x.1
   opens_logs old new tenant (Some refusal) x = ap (λ (a : Asking). a.kept.logs) x.2
 
-  call_logs_grow : (old new : Asking) (opened : Option ℕ) (command : Command) (told : Result Reply CallerFault) → AsksOpened acts (turns is_honest state failures) logs_of old opened command told new
+  call_logs_grow : (old new : Asking) (opened : Option ℕ) (command : Command) (told : Result Reply CallerFault) → AsksOpened acts (turns is_honest state failures was_refused) logs_of old opened command told new
       → IsPrefix (shared_log old.kept.logs) (shared_log new.kept.logs)
   call_logs_grow old new (Some tenant) command told x = answer_grows old.kept new.kept x.result x.kept
   call_logs_grow old new None command told x = same_logs old.kept new.kept (ap (λ (a : Asking). a.kept.logs) x.1)
 
-  logs_grow : (old new : Caller) (e : Exchange) → AsksBook is_honest state failures old e new → IsPrefix (shared_log old.keeper.logs) (shared_log new.keeper.logs)
+  logs_grow : (old new : Caller) (e : Exchange) → AsksBook is_honest state failures was_refused old e new → IsPrefix (shared_log old.keeper.logs) (shared_log new.keeper.logs)
   logs_grow old new (Opens tenant refusal) x = same_logs (asker_of old).kept (asker_of new).kept (opens_logs (asker_of old) (asker_of new) tenant refusal x)
   logs_grow old new (Calls command told) x = call_logs_grow (asker_of old) (asker_of new) old.opened command told x
   logs_grow old new (Settles told) x =
       prefix_trans (shared_log old.keeper.logs) (shared_log x.learned) (shared_log new.keeper.logs) x.learns_so.this
-      (settle_front is_honest state failures (λ (s : SharedLogs L J R D). s.book.clerk.mark) _ x.learned new.keeper.logs told x.settles)
+      (settle_front is_honest state failures was_refused (λ (s : SharedLogs L J R D). s.book.clerk.mark) _ x.learned new.keeper.logs told x.settles)
 
-  seen_before : (history : List StateView) (old new : Caller) (e : Exchange) → AsksBook is_honest state failures old e new → SeeFronts history new → SeeFronts history old
+  seen_before : (history : List StateView) (old new : Caller) (e : Exchange) → AsksBook is_honest state failures was_refused old e new → SeeFronts history new → SeeFronts history old
   seen_before history old new e x front = (
     prefix_trans old.desk.mark.log new.desk.mark.log history (grows old new e x) front.0,
     prefix_trans (shared_log old.keeper.logs) (shared_log new.keeper.logs) history (logs_grow old new e x) front.1,
@@ -111,7 +111,7 @@ head_is mark first log seen is front =
     let f : IsPrefix (mark ∷ []) (first ∷ log) = subst (λ (l : List StateView). IsPrefix l (first ∷ log)) is front in
     cc (f.1)
 
-module _ (L J R : Type 0) {D : Type 0} (is_honest : D → Bool) (state : D → DiskState) (failures : D → ℕ) where
+module _ (L J R : Type 0) {D : Type 0} (is_honest : D → Bool) (state : D → DiskState) (failures : D → ℕ) (was_refused : D → Bool) where
   abbrev Worker : Type 0
   Worker = SessionWorker L J R D
 
@@ -129,12 +129,12 @@ module _ (L J R : Type 0) {D : Type 0} (is_honest : D → Bool) (state : D → D
       let after = clerk_of new.mark new.birth in
       prefix_trans old.mark.log new.mark.log history (chain_front (clerk_of old.mark old.birth) after (p ∷ []) (after, a, refl)) front
 
-  logs_before : (history : List StateView) (old : SharedLogs L J R D) (turn : Turn) (new : SharedLogs L J R D) → turns is_honest state failures old turn new
+  logs_before : (history : List StateView) (old : SharedLogs L J R D) (turn : Turn) (new : SharedLogs L J R D) → turns is_honest state failures was_refused old turn new
       → LogsSeeFront history new → LogsSeeFront history old
   logs_before history old turn new t front =
       let was = old.book.clerk.mark in
       let is = new.book.clerk.mark in
-      prefix_trans was.log is.log history (any_front is_honest state failures was turn is t) front
+      prefix_trans was.log is.log history (any_front is_honest state failures was_refused was turn is t) front
 
   -- the clerk that began the history looked once
   all_added : (one turner logs : Clerk L J) (rest : List (Clerk L J)) → one.mark.made ≡ 0 → (n : ℕ)
@@ -147,12 +147,12 @@ module _ (L J R : Type 0) {D : Type 0} (is_honest : D → Bool) (state : D → D
   -- all that the sessions of these workers were told stands in one history from the state that the first clerk has seen, with all that a turner did
   pub one_history : {G : Type 0} (calls : G → DigestCall → G → Type 0) (digests : G) (tenants : List TenantQuota) (one turner logs : Clerk L J) (begun : List Worker) (served : List (Served Worker))
       (answers workers log_count : ℕ) → IsWhole (λ (c : Clerk L J). c.mark) (one ∷ turner ∷ logs ∷ flat_map clerks_in served) answers
-      → AllZip (IsServed (λ (old : Worker) right (new : Worker). IsSession (AsksBook is_honest state failures) right old.caller new.caller)) begun served
+      → AllZip (IsServed (λ (old : Worker) right (new : Worker). IsSession (AsksBook is_honest state failures was_refused) right old.caller new.caller)) begun served
       → length begun ≡ workers → EachAt begun (IsNewWorker log_count tenants)
       → (made : Turning (Clerk L J) (SharedLogs L J R D) G) → IsNewTurner log_count digests made → (desk : Scanner (Clerk L J)) (left : SharedLogs L J R D)
-      → Leaves acts is_honest state failures (turns is_honest state failures) logs_of calls tenants made desk left → turner ≡ desk.desk → logs ≡ left.book.clerk
+      → Leaves acts is_honest state failures (turns is_honest state failures was_refused) logs_of calls tenants made desk left → turner ≡ desk.desk → logs ≡ left.book.clerk
       → answers ≡ desk.counted + answers_in served
-      → (first : StateView) → one.mark.log ≡ first ∷ [] → one.mark.made ≡ 0 → HaveOneHistory L J R is_honest state failures calls digests tenants workers log_count first
+      → (first : StateView) → one.mark.log ≡ first ∷ [] → one.mark.made ≡ 0 → HaveOneHistory L J R is_honest state failures was_refused calls digests tenants workers log_count first
   one_history calls digests tenants one turner logs begun served answers workers log_count w z many new made fresh desk left turned same_clerk same_logs shares first is none =
       let whole = w.first ∷ w.log in
       let P : Clerk L J → Type 0 = SeesFront whole in
@@ -163,7 +163,7 @@ module _ (L J R : Type 0) {D : Type 0} (is_honest : D → Bool) (state : D → D
       let logs_front : LogsSeeFront whole left = subst P same_logs (head P logs (flat_map clerks_in served) after_turner) in
       let all = one_run (λ k. None) w.first w.log w.legal (no_told w.first w.log) in
       let same : w.first ≡ first = head_is first w.first w.log one.mark.log is w.seen.0 in
-      subst (λ (s : StateView). HaveOneHistory L J R is_honest state failures calls digests tenants workers log_count s) same (record {
+      subst (λ (s : StateView). HaveOneHistory L J R is_honest state failures was_refused calls digests tenants workers log_count s) same (record {
         log = w.log;
         legal = w.legal;
         run = all.run;
@@ -174,14 +174,14 @@ module _ (L J R : Type 0) {D : Type 0} (is_honest : D → Bool) (state : D → D
         new = new;
         served = served;
         each =
-            served_inside (AsksBook is_honest state failures) (SeeFronts whole) (seen_before L J R D is_honest state failures whole) (λ (x : Worker). x.caller) begun served z
+            served_inside (AsksBook is_honest state failures was_refused) (SeeFronts whole) (seen_before L J R D is_honest state failures was_refused whole) (λ (x : Worker). x.caller) begun served z
             (fronts whole served rest);
         turner = made;
         fresh = fresh;
         desk = desk;
         logs = left;
         turned =
-            leaves_inside acts is_honest state failures (turns is_honest state failures) calls (SeesFront whole) (clerk_before whole) (LogsSeeFront whole) (logs_before whole) logs_of tenants made desk left turned
+            leaves_inside acts is_honest state failures (turns is_honest state failures was_refused) calls (SeesFront whole) (clerk_before whole) (LogsSeeFront whole) (logs_before whole) logs_of tenants made desk left turned
             desk_front logs_front;
         seen = (desk_front, logs_front);
         added =

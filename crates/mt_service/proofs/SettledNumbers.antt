@@ -111,7 +111,7 @@ module _ (first : StateView) (idle : IsIdle first) (old new : ClerkView) (seen :
 adds_front : (what : Happening) (old new : Seen) → Adds what old new → IsPrefix old.log new.log
 adds_front what old new a = prefix_trans old.log a.before new.log a.since (a.to ∷ [], sym a.log)
 
-module _ {D : Type 0} (is_honest : D → Bool) (state : D → DiskState) (failures : D → ℕ) where
+module _ {D : Type 0} (is_honest : D → Bool) (state : D → DiskState) (failures : D → ℕ) (was_refused : D → Bool) where
   short_front : (worker upto n : ℕ) (old new : LastLog D) (was is : Seen) → DrainsShort is_honest state failures gives_batch worker n upto old new was is → IsPrefix was.log is.log
   short_front worker upto zero old new was is same = front_same was.log is.log (ap (λ (m : Seen). m.log) same.1)
   short_front worker upto (suc n) old new was is (mark, mid, seen, before, last, less) =
@@ -154,16 +154,27 @@ module _ {D : Type 0} (is_honest : D → Bool) (state : D → DiskState) (failur
   fails_front upto e old new was is (inl none) = front_same was.log is.log (ap (λ (m : Seen). m.log) none.same)
   fails_front upto e old new was is (inr f) = flush_front (worker_of f.mid) upto e _ _ was is f.fails.does
 
+  -- so of a log that was not brought up
+  pub down_front : (log : ℕ) (e : Refusal) (old new : Seen) → UptoSteps (λ upto. FailsToBringUp is_honest state failures gives_batch upto e) log old new → IsPrefix old.log new.log
+  down_front log e old new u =
+      prefix_trans old.log u.seen.log new.log (adds_front _ old u.seen u.looked) (fails_front u.look.steps e u.turned.before u.turned.after u.seen new u.turned.does)
+
   -- whatever a turn told, what was seen before it is a beginning of what was seen then
-  pub turn_front : (log : ℕ) (told : Result ℕ Refusal) (old new : Seen) → DoesShared is_honest state failures old (BroughtUp log told) new → IsPrefix old.log new.log
+  pub turn_front : (log : ℕ) (told : Result ℕ Refusal) (old new : Seen) → DoesShared is_honest state failures was_refused old (BroughtUp log told) new → IsPrefix old.log new.log
   turn_front log (Ok mark) old new u = up_front log mark old new u
   turn_front log (Err e) old new (inl (elsewhere, same)) = front_same old.log new.log (ap (λ (m : Seen). m.log) same)
   turn_front log (Err e) old new (inr u) =
-      prefix_trans old.log u.seen.log new.log (adds_front _ old u.seen u.looked) (fails_front u.look.steps e u.turned.before u.turned.after u.seen new u.turned.does)
+      let t = u.turned in
+      down_front log t.does.refusal old new (record {
+        look = u.look;
+        seen = u.seen;
+        looked = u.looked;
+        turned = record { before = t.before; after = t.after; whose = t.whose; does = t.does.fails };
+      })
 
   module _ {S : Type 0} (seen_by : S → Seen) where
     abbrev DoesSeen : S → Turn → S → Type 0
-    DoesSeen s turn t = DoesShared is_honest state failures (seen_by s) turn (seen_by t)
+    DoesSeen s turn t = DoesShared is_honest state failures was_refused (seen_by s) turn (seen_by t)
 
     front : (old new : S) (log : ℕ) (marks : List ℕ) → Chain DoesSeen old (turns_from log marks) new → IsPrefix (seen_by old).log (seen_by new).log
     front old new log [] chain = front_same (seen_by old).log (seen_by new).log (ap (λ (s : S). (seen_by s).log) chain)
@@ -206,7 +217,7 @@ module _ {D : Type 0} (is_honest : D → Bool) (state : D → DiskState) (failur
 
   -- so that of a session does, of each answer that its own clerk had seen
   pub session_covers : {L J R K : Type 0} (first : StateView) (log : List StateView) → IsIdle first → Along Leads first log
-      → (old new : DeskCaller L R (Clerk L J) (SharedLogs L J R D) K) (n : ℕ) → AsksBook is_honest state failures old (SettlesFor (Ok n)) new
+      → (old new : DeskCaller L R (Clerk L J) (SharedLogs L J R D) K) (n : ℕ) → AsksBook is_honest state failures was_refused old (SettlesFor (Ok n)) new
       → IsPrefix new.keeper.logs.book.clerk.mark.log (first ∷ log) → (before after : Clerk L J) (seen : ℕ) (asked : Asked) (answer : Answer)
       → Calls acts before after seen asked (Ok answer)
       → IsPrefix after.mark.log old.desk.mark.log → answer.last ≤ n

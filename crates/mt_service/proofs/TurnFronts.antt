@@ -6,18 +6,18 @@ use Rattle.mt_disk.specs.Disk.{DiskState}
 use Rattle.mt_settle.specs.Turns.{Turn, BroughtUp, BegunNext, GivenUp, Told}
 use Rattle.mt_store_logs.specs.{LogTurns.{BringsUp, FailsToBringUp}, Turns.FailsToFlushLog}
 use Rattle.mt_stored.specs.{Begins.{BringsUpAndBegins, FailsToBringUpAndBegin}, Shared.{Seen, gives_batch, UptoSteps, DoesShared}}
-use Rattle.mt_service.proofs.SettledNumbers.{turn_front}
+use Rattle.mt_service.proofs.SettledNumbers.{turn_front, down_front as not_up_front}
 
 same_front : (old new : Seen) → new ≡ old → IsPrefix old.log new.log
 same_front old new same = subst (λ (m : Seen). IsPrefix old.log m.log) (sym same) ([], append-nil old.log)
 
-module _ {D : Type 0} (is_honest : D → Bool) (state : D → DiskState) (failures : D → ℕ) where
+module _ {D : Type 0} (is_honest : D → Bool) (state : D → DiskState) (failures : D → ℕ) (was_refused : D → Bool) where
   -- so far the history is that of a log which was brought up, whatever was begun after it
   up_front : (log mark : ℕ) (old new : Seen) (u : UptoSteps (λ upto. BringsUp is_honest state failures gives_batch upto mark) log old new) → IsPrefix old.log new.log
-  up_front log mark old new u = turn_front is_honest state failures log (Ok mark) old new u
+  up_front log mark old new u = turn_front is_honest state failures was_refused log (Ok mark) old new u
 
   down_front : (log : ℕ) (refusal : Refusal) (old new : Seen) (u : UptoSteps (λ upto. FailsToBringUp is_honest state failures gives_batch upto refusal) log old new) → IsPrefix old.log new.log
-  down_front log refusal old new u = turn_front is_honest state failures log (Err refusal) old new (inr u)
+  down_front log refusal old new u = not_up_front is_honest state failures was_refused log refusal old new u
 
   begins_front : (log generation mark : ℕ) (old new : Seen) → UptoSteps (λ upto. BringsUpAndBegins is_honest state failures gives_batch upto generation mark) log old new → IsPrefix old.log new.log
   begins_front log generation mark old new u =
@@ -73,11 +73,18 @@ module _ {D : Type 0} (is_honest : D → Bool) (state : D → DiskState) (failur
             ]
       ]
 
-  pub any_front : (old : Seen) (turn : Turn) (new : Seen) → DoesShared is_honest state failures old turn new → IsPrefix old.log new.log
-  any_front old (BroughtUp log told) new d = turn_front is_honest state failures log told old new d
+  pub any_front : (old : Seen) (turn : Turn) (new : Seen) → DoesShared is_honest state failures was_refused old turn new → IsPrefix old.log new.log
+  any_front old (BroughtUp log told) new d = turn_front is_honest state failures was_refused log told old new d
   any_front old (BegunNext log generation (Ok mark)) new u = begins_front log generation mark old new u
   any_front old (BegunNext log generation (Err refusal)) new (inl (elsewhere, same)) = same_front old new same
-  any_front old (BegunNext log generation (Err refusal)) new (inr u) = fails_front log generation refusal old new u
+  any_front old (BegunNext log generation (Err refusal)) new (inr u) =
+      let t = u.turned in
+      fails_front log generation t.does.refusal old new (record {
+        look = u.look;
+        seen = u.seen;
+        looked = u.looked;
+        turned = record { before = t.before; after = t.after; whose = t.whose; does = t.does.fails };
+      })
   any_front old (GivenUp log (Ok u)) new d = same_front old new d.1
   any_front old (GivenUp log (Err refusal)) new d = same_front old new d.1
   any_front old (Told log (Ok told)) new d = same_front old new d.1

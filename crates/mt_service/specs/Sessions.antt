@@ -23,16 +23,16 @@ asker_of c = asker c.desk c.pass.worker c.pass.seen c.pass.share.amount c.tenant
 abbrev pub acts : {L J : Type 0} → Clerk L J → Period → Clerk L J → Type 0
 acts old p new = Serves (clerk_of old.mark old.birth) p (clerk_of new.mark new.birth)
 
-abbrev pub turns : {L J R D : Type 0} (is_honest : D → Bool) (state : D → DiskState) (failures : D → ℕ) → SharedLogs L J R D → Turn → SharedLogs L J R D → Type 0
-turns is_honest state failures old turn new = DoesShared is_honest state failures old.book.clerk.mark turn new.book.clerk.mark
+abbrev pub turns : {L J R D : Type 0} (is_honest : D → Bool) (state : D → DiskState) (failures : D → ℕ) (was_refused : D → Bool) → SharedLogs L J R D → Turn → SharedLogs L J R D → Type 0
+turns is_honest state failures was_refused old turn new = DoesShared is_honest state failures was_refused old.book.clerk.mark turn new.book.clerk.mark
 
 abbrev pub logs_of : {L J R D : Type 0} → SharedLogs L J R D → ℕ
 logs_of s = min (length s.logs.now) 255
 
 -- what a worker's caller answers, over a clerk of the book, and over logs into which another clerk drains it
-abbrev pub AsksBook : {L J R D K : Type 0} (is_honest : D → Bool) (state : D → DiskState) (failures : D → ℕ) → CallerRelation (DeskCaller L R (Clerk L J) (SharedLogs L J R D) K)
-AsksBook is_honest state failures old e new =
-    AsksDesk acts (λ x clerk y. LearnsSeen x.book.clerk.mark clerk.mark y.book.clerk.mark) (turns is_honest state failures) logs_of (asker_of old) e (asker_of new)
+abbrev pub AsksBook : {L J R D K : Type 0} (is_honest : D → Bool) (state : D → DiskState) (failures : D → ℕ) (was_refused : D → Bool) → CallerRelation (DeskCaller L R (Clerk L J) (SharedLogs L J R D) K)
+AsksBook is_honest state failures was_refused old e new =
+    AsksDesk acts (λ x clerk y. LearnsSeen x.book.clerk.mark clerk.mark y.book.clerk.mark) (turns is_honest state failures was_refused) logs_of (asker_of old) e (asker_of new)
 
 -- the pass of a worker, and its two clerks
 abbrev pub pass_in : {L J R D : Type 0} → Served (SessionWorker L J R D) → Pass L
@@ -75,21 +75,21 @@ abbrev pub SeeFronts : {L J R D K : Type 0} → List StateView → DeskCaller L 
 SeeFronts history c = SeesFront history c.desk × LogsSeeFront history c.keeper.logs
 
 -- a session of a worker, each exchange of which was made over beginnings of this history
-abbrev pub IsSessionOver : {L J R D : Type 0} (is_honest : D → Bool) (state : D → DiskState) (failures : D → ℕ) → List StateView → SessionWorker L J R D → Bool → SessionWorker L J R D → Type 0
-IsSessionOver is_honest state failures history old right new =
-    IsSession (Within (SeeFronts history) (AsksBook is_honest state failures)) right old.caller new.caller
+abbrev pub IsSessionOver : {L J R D : Type 0} (is_honest : D → Bool) (state : D → DiskState) (failures : D → ℕ) (was_refused : D → Bool) → List StateView → SessionWorker L J R D → Bool → SessionWorker L J R D → Type 0
+IsSessionOver is_honest state failures was_refused history old right new =
+    IsSession (Within (SeeFronts history) (AsksBook is_honest state failures was_refused)) right old.caller new.caller
 
 -- A turner's deeds led to what is left of it. Each period of its clerk, and each turn of a log, was made over a beginning of this history.
-abbrev pub LeavesOver : {L J R D G : Type 0} (is_honest : D → Bool) (state : D → DiskState) (failures : D → ℕ) (calls : G → DigestCall → G → Type 0) (tenants : List TenantQuota) → List StateView
+abbrev pub LeavesOver : {L J R D G : Type 0} (is_honest : D → Bool) (state : D → DiskState) (failures : D → ℕ) (was_refused : D → Bool) (calls : G → DigestCall → G → Type 0) (tenants : List TenantQuota) → List StateView
     → Turning (Clerk L J) (SharedLogs L J R D) G → Scanner (Clerk L J) → SharedLogs L J R D → Type 0
-LeavesOver is_honest state failures calls tenants history turner desk logs =
-    Leaves (Within (SeesFront history) acts) is_honest state failures (Within (LogsSeeFront history) (turns is_honest state failures)) logs_of calls tenants turner desk logs
+LeavesOver is_honest state failures was_refused calls tenants history turner desk logs =
+    Leaves (Within (SeesFront history) acts) is_honest state failures (Within (LogsSeeFront history) (turns is_honest state failures was_refused)) logs_of calls tenants turner desk logs
 
 -- One history from a state on. There is a run through it, and one order explains whichever there is. So many new workers, with so many logs, were led by sessions, and
 -- each exchange of these was made over a beginning of the history. A new turner was led to what is left of it. Each of its periods, so each look and scan, was made over
 -- one too. These clerks added each state of the history but the first, and but a last look of each and of the clerk that began it. So many answers were taken as the
 -- passes came back with.
-pub record HaveOneHistory (L J R : Type 0) {D G : Type 0} (is_honest : D → Bool) (state : D → DiskState) (failures : D → ℕ) (calls : G → DigestCall → G → Type 0) (digests : G) (tenants : List TenantQuota) (workers log_count : ℕ) (first : StateView) : Type 0 where
+pub record HaveOneHistory (L J R : Type 0) {D G : Type 0} (is_honest : D → Bool) (state : D → DiskState) (failures : D → ℕ) (was_refused : D → Bool) (calls : G → DigestCall → G → Type 0) (digests : G) (tenants : List TenantQuota) (workers log_count : ℕ) (first : StateView) : Type 0 where
   pub log : List StateView
   pub legal : Along Leads first log
   pub run : List Happening
@@ -99,12 +99,12 @@ pub record HaveOneHistory (L J R : Type 0) {D G : Type 0} (is_honest : D → Boo
   pub many : length begun ≡ workers
   pub new : EachAt begun (IsNewWorker log_count tenants)
   pub served : List (Served (SessionWorker L J R D))
-  pub each : AllZip (IsServed (IsSessionOver is_honest state failures (first ∷ log))) begun served
+  pub each : AllZip (IsServed (IsSessionOver is_honest state failures was_refused (first ∷ log))) begun served
   pub turner : Turning (Clerk L J) (SharedLogs L J R D) G
   pub fresh : IsNewTurner log_count digests turner
   pub desk : Scanner (Clerk L J)
   pub logs : SharedLogs L J R D
-  pub turned : LeavesOver is_honest state failures calls tenants (first ∷ log) turner desk logs
+  pub turned : LeavesOver is_honest state failures was_refused calls tenants (first ∷ log) turner desk logs
   pub seen : SeesFront (first ∷ log) desk.desk × LogsSeeFront (first ∷ log) logs
   pub added : length log ≡ sum_by (λ (c : Clerk L J). c.mark.made) (all_clerks desk.desk logs.book.clerk served) + length (all_clerks desk.desk logs.book.clerk served) + 1
   pub taken : (last_from first log).answers ≡ desk.counted + answers_in served

@@ -25,12 +25,12 @@ use mt_disk::Disk;
 pub fn a_settled_number_covers_each_answer_that_was_seen<L, J, R, D: Disk, K, S>()
     ensures logs { (first : StateView) (log : List StateView) → IsIdle first → Along Leads first log →
         (seen_by : S → MarkView StateView) (count n : ℕ) (learned settled : S) →
-        Settles (λ (s : S) (turn : Turn) (t : S). DoesShared D.is_honest D.state D.failures (seen_by s) turn (seen_by t)) count learned settled (Ok n) →
+        Settles (λ (s : S) (turn : Turn) (t : S). DoesShared D.is_honest D.state D.failures D.was_refused (seen_by s) turn (seen_by t)) count learned settled (Ok n) →
         IsPrefix (seen_by settled).log (first ∷ log) →
         (old new : ClerkView) (seen : ℕ) (asked : Asked) (answer : Answer) → Calls Serves old new seen asked (Ok answer) →
         IsPrefix new.mark.log (seen_by learned).log → answer.last ≤ n }
     ensures session { (first : StateView) (log : List StateView) → IsIdle first → Along Leads first log →
-        (old new : DeskCaller L R (Clerk L J) (SharedLogs L J R D) K) (n : ℕ) → AsksBook D.is_honest D.state D.failures old (SettlesFor (Ok n)) new →
+        (old new : DeskCaller L R (Clerk L J) (SharedLogs L J R D) K) (n : ℕ) → AsksBook D.is_honest D.state D.failures D.was_refused old (SettlesFor (Ok n)) new →
         IsPrefix new.keeper.logs.book.clerk.mark.log (first ∷ log) →
         (before after : Clerk L J) (seen : ℕ) (asked : Asked) (answer : Answer) → Calls acts before after seen asked (Ok answer) →
         IsPrefix after.mark.log old.desk.mark.log → answer.last ≤ n }

@@ -81,7 +81,7 @@ where
     requires unasked { IsUnasked store.source.state }
     ensures ok { OnOk result (SaysAll (W.contents out.old) (W.contents out.new) options.now.sessions) }
     ensures settled { IfOk result (λ ending. IsSettled ending.store.source.state ending.store.logs.items) }
-    ensures history { OnOk result (HaveOneHistory L J R D.is_honest D.state D.failures G.does digests options.now.tenants.items options.now.workers (vec_len store.logs) store.source.state) }
+    ensures history { OnOk result (HaveOneHistory L J R D.is_honest D.state D.failures D.was_refused G.does digests options.now.tenants.items options.now.workers (vec_len store.logs) store.source.state) }
     ensures err { OnErr result (SaysPart (W.contents out.old) (W.contents out.new) options.now.sessions) }
     ensures cause { IfErr result (HasCause (Failed (W.failures out.old) (W.failures out.new))) }
 {
@@ -115,7 +115,7 @@ fn serve_store<
 ) -> Result<(Totals, Store<D>), ServerFault>
     requires names { AreNames L.name L.parts J.name J.parts J.book names store.source.state }
     requires unasked { IsUnasked store.source.state }
-    ensures history { OnOk result (HaveOneHistory L J R D.is_honest D.state D.failures G.does digests options.now.tenants.items options.now.workers (vec_len store.logs) store.source.state) }
+    ensures history { OnOk result (HaveOneHistory L J R D.is_honest D.state D.failures D.was_refused G.does digests options.now.tenants.items options.now.workers (vec_len store.logs) store.source.state) }
     ensures settled { IfOk result (λ served. IsSettled served.1.source.state served.1.logs.items) }
     ensures fault { IfErr result IsOfServing }
 {
@@ -246,7 +246,7 @@ fn serve_all<
     digests: G,
 ) -> Result<Totals, ServerFault>
     requires parts { L.parts ≡ 65536 }
-    ensures history { OnOk result ((first : StateView) → mark.log ≡ first ∷ [] → mark.made ≡ 0 → HaveOneHistory L J R D.is_honest D.state D.failures G.does digests options.now.tenants.items options.now.workers (length logs.now) first) }
+    ensures history { OnOk result ((first : StateView) → mark.log ≡ first ∷ [] → mark.made ≡ 0 → HaveOneHistory L J R D.is_honest D.state D.failures D.was_refused G.does digests options.now.tenants.items options.now.workers (length logs.now) first) }
     ensures fault { IfErr result IsOfServing }
 {
     let workers = workers_of(rt, alloc, book, logs, turns, options)?;

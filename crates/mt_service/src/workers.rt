@@ -90,7 +90,7 @@ impl<L: Ledger, J: Naming, R: Wait + Clock + Log, D: Disk + Drop> Worker
     for SessionWorker<'_, L, J, R, D> {
     ghost use Rattle.mt_service.specs.Sessions.{IsSession, AsksBook};
 
-    ghost serves = { λ old right new. IsSession (AsksBook D.is_honest D.state D.failures) right old.caller new.caller };
+    ghost serves = { λ old right new. IsSession (AsksBook D.is_honest D.state D.failures D.was_refused) right old.caller new.caller };
 
     fn serve(&mut self, alloc: Global, stream: &TcpStream) -> bool {
         set_up(stream);

@@ -17,3 +17,4 @@ pub mod Standing
 pub mod Ends
 pub mod Turns
 pub mod Taking
+pub mod FailedFiles

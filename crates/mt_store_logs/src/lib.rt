@@ -13,6 +13,7 @@
 
 mod by_kind;
 mod crashing;
+mod failed_file;
 mod fault;
 mod flushing;
 mod last_log;
@@ -28,6 +29,7 @@ mod taking;
 mod turning;
 
 pub use crashing::{FileImages, crash_logs};
+pub use failed_file::FailedFile;
 pub use fault::{LogRefusal, StoreRefusal};
 pub use flushing::{Flushed, bring_up, flush};
 pub use last_log::{LastLog, WaitingBatch};

@@ -9,8 +9,10 @@ ghost use Rattle.mt_turns.specs.Logs.{IsWith};
 ghost use Rattle.mt_store_logs.specs.Places.{last_log_of, mark_in, slot_of, worker_of, with_last, without_last, no_files, OnLast};
 ghost use Rattle.mt_store_logs.specs.Turns.{BeginsNextLog, FailsToBeginNextLog, LooksForNext, FailsToLook, ReopensLog, FailsToReopenLog, GivesUpOlderLog, FailsToGiveUpOlderLog};
 ghost use Rattle.mt_store_logs.specs.Standing.{TellsOf};
+ghost use Rattle.mt_store_logs.specs.{Kinds.kind_of, FailedFiles.{failed_generation, is_refusal, was_refused_at}};
 ghost use Rattle.mt_store_logs.specs.Waits.{Reopens, FailsToReopen};
 
+use crate::failed_file::FailedFile;
 use crate::last_log::{LastLog, WaitingBatch};
 use crate::next_log::{find_next, put_files, take_files};
 use crate::standing::Generations;
@@ -103,6 +105,27 @@ impl<D: Disk + Drop> StoreLog<D> {
         ensures { IsTrue result ↔ (self.now.kept ≢ None) }
     {
         self.kept.is_some()
+    }
+
+    /// The file whose disk failed, if the last call was refused by `Device`: that for the next log as long as that one may be
+    /// there or not, else that of the last one. After `give_up_older` it is `older_file`.
+    pub fn failed_file(&self) -> FailedFile
+        ensures kind { result.kind ≡ kind_of (failed_generation self.now) }
+        ensures refused { is_refusal result.error ≡ was_refused_at D.was_refused (failed_generation self.now) self.now.log.files }
+    {
+        if self.next_in_doubt {
+            FailedFile::after(self.log.files(), self.log.generation())
+        } else {
+            FailedFile::of(self.log.files(), self.log.generation())
+        }
+    }
+
+    /// The file of the generation before the last one.
+    pub fn older_file(&self) -> FailedFile
+        ensures kind { result.kind ≡ kind_of (self.now.log.generation - 1) }
+        ensures refused { is_refusal result.error ≡ was_refused_at D.was_refused (self.now.log.generation - 1) self.now.log.files }
+    {
+        FailedFile::of(self.log.files(), self.log.generation().saturating_sub(1))
     }
 
     // Takes its last log out. Its place is empty then.

@@ -1,5 +1,5 @@
 -- A turn over a source says the same of what the source shows.
-use Rattle.std.proofs.Common.{◌≡◌, inl, inr, ℕ, zero, suc, Bool, Result, Ok, Err, refl, ap}
+use Rattle.std.proofs.Common.{◌≡◌, inl, inr, ℕ, zero, suc, ◌-◌, Bool, Result, Ok, Err, refl, sym, subst, ap}
 use Rattle.std.specs.Prelude.{IfOk, IfErr, OnOk}
 use Rattle.mt_rows.specs.{declared.record.Batch.Batch, declared.refusal.Refusal.Refusal}
 use Rattle.mt_disk.specs.Disk.{DiskState}
@@ -7,6 +7,7 @@ use Rattle.mt_book.specs.{Happens.{Adds, Acted}, Periods.look_period, declared.d
 use Rattle.mt_store_logs.specs.{declared.store_log.StoreLog.StoreLog, declared.last_log.LastLog.LastLog, declared.flushing.Flushed.Flushed, Places.worker_of}
 use Rattle.mt_store_logs.specs.Flushes.{DrainsIn, FailsToDrain, DrainsShort, DrainsUpto, FailsInDrains, Flushes, FailsToFlush}
 use Rattle.mt_store_logs.specs.{LogTurns.{BringsUp, IsNotReopened, FailsToBringUp}, Turns.{FlushesLog, FailsToFlushLog, FlushesAndBegins, FailsToFlushAndBegin, GivesUpOlderLog, FailsToGiveUpOlderLog}}
+use Rattle.mt_store_logs.specs.FailedFiles.{failed_generation, was_refused_at, told_by}
 use Rattle.mt_settle.specs.Turns.{BroughtUp, BegunNext, GivenUp, mark_told}
 use Rattle.mt_stored.specs.{Begins.{FlushesOrBegins, FailsToFlushOrBegin, BringsUpAndBegins, FailsToBringUpAndBegin}, Shared.{Seen, gives_batch, DoesShared}}
 
@@ -117,43 +118,75 @@ module _ {D S : Type 0} (is_honest : D → Bool) (state : D → DiskState) (fail
 
   -- ---- a turn
 
-  module _ (log : ℕ) (before after : StoreLog D) (was is : S) (old : Seen) (whose : worker_of before ≡ log) (look : Look) (looked : Adds (Acted (look_period look)) old (shown was)) where
-    pub brought : (r : Result Flushed Refusal)
+  module _ (was_refused : D → Bool) (log : ℕ) (before after : StoreLog D) (was is : S) (old : Seen) (whose : worker_of before ≡ log) (look : Look) (looked : Adds (Acted (look_period look)) old (shown was)) where
+    abbrev refused : Bool
+    refused = was_refused_at was_refused (failed_generation after) after.log.files
+
+    brought_so : (r : Result Flushed Refusal)
         → IfOk r (λ f. BringsUp is_honest state failures from look.steps f.mark before after was is)
         → IfErr r (λ e. FailsToBringUp is_honest state failures from look.steps e before after was is)
-        → DoesShared is_honest state failures old (BroughtUp log (mark_told r)) (shown is)
-    brought (Ok f) ok err = record {
+        → DoesShared is_honest state failures was_refused old (BroughtUp log (mark_told (told_by refused r))) (shown is)
+    brought_so (Ok f) ok err = record {
       look = look;
       seen = shown was;
       looked = looked;
       turned = record { before = before; after = after; whose = whose; does = brings_up look.steps f.mark before after was is ok };
     }
-    brought (Err e) ok err = inr (record {
+    brought_so (Err e) ok err = inr (record {
       look = look;
       seen = shown was;
       looked = looked;
-      turned = record { before = before; after = after; whose = whose; does = fails_to_bring_up look.steps e before after was is err };
+      turned = record { before = before; after = after; whose = whose; does = record { refusal = e; fails = fails_to_bring_up look.steps e before after was is err; is = refl } };
     })
 
-    pub begun : (generation : ℕ) (r : Result Flushed Refusal)
+    begun_so : (generation : ℕ) (r : Result Flushed Refusal)
         → IfOk r (λ f. BringsUpAndBegins is_honest state failures from look.steps generation f.mark before after was is)
         → IfErr r (λ e. FailsToBringUpAndBegin is_honest state failures from look.steps generation e before after was is)
-        → DoesShared is_honest state failures old (BegunNext log generation (mark_told r)) (shown is)
-    begun generation (Ok f) ok err = record {
+        → DoesShared is_honest state failures was_refused old (BegunNext log generation (mark_told (told_by refused r))) (shown is)
+    begun_so generation (Ok f) ok err = record {
       look = look;
       seen = shown was;
       looked = looked;
       turned = record { before = before; after = after; whose = whose; does = brings_up_and_begins look.steps generation f.mark before after was is ok };
     }
-    begun generation (Err e) ok err = inr (record {
+    begun_so generation (Err e) ok err = inr (record {
       look = look;
       seen = shown was;
       looked = looked;
-      turned = record { before = before; after = after; whose = whose; does = fails_to_bring_up_and_begin look.steps generation e before after was is err };
+      turned = record { before = before; after = after; whose = whose; does = record { refusal = e; fails = fails_to_bring_up_and_begin look.steps generation e before after was is err; is = refl } };
     })
 
-module _ {D : Type 0} (is_honest : D → Bool) (state : D → DiskState) (failures : D → ℕ) (log : ℕ) (before after : StoreLog D) (whose : worker_of before ≡ log) (seen : Seen) where
-  pub given_up : (r : Result (Unit {0}) Refusal) → OnOk r (GivesUpOlderLog is_honest state failures before after)
-      → IfErr r (λ e. FailsToGiveUpOlderLog is_honest state failures e before after) → DoesShared is_honest state failures seen (GivenUp log r) seen
-  given_up (Ok _) ok err = (record { before = before; after = after; whose = whose; does = ok }, refl)
-  given_up (Err e) ok err = (inr (record { before = before; after = after; whose = whose; does = err }), refl)
+    -- and what is told of it
+    module _ (r told : Result Flushed Refusal) (so : told ≡ told_by refused r) where
+      pub brought : IfOk r (λ f. BringsUp is_honest state failures from look.steps f.mark before after was is)
+          → IfErr r (λ e. FailsToBringUp is_honest state failures from look.steps e before after was is)
+          → DoesShared is_honest state failures was_refused old (BroughtUp log (mark_told told)) (shown is)
+      brought ok err =
+          subst (λ (x : Result Flushed Refusal). DoesShared is_honest state failures was_refused old (BroughtUp log (mark_told x)) (shown is)) (sym so) (brought_so r ok err)
+
+      pub begun : (generation : ℕ) → IfOk r (λ f. BringsUpAndBegins is_honest state failures from look.steps generation f.mark before after was is)
+          → IfErr r (λ e. FailsToBringUpAndBegin is_honest state failures from look.steps generation e before after was is)
+          → DoesShared is_honest state failures was_refused old (BegunNext log generation (mark_told told)) (shown is)
+      begun generation ok err =
+          subst (λ (x : Result Flushed Refusal). DoesShared is_honest state failures was_refused old (BegunNext log generation (mark_told x)) (shown is)) (sym so)
+          (begun_so generation r ok err)
+
+-- what was flushed is told of the same worker
+told_whose : (log : ℕ) (b : Bool) (r : Result Flushed Refusal) → IfOk r (λ f. f.worker ≡ log) → IfOk (told_by b r) (λ f. f.worker ≡ log)
+told_whose log b (Ok f) ok = ok
+told_whose log b (Err e) ok = tt
+
+pub whose_is_told : (log : ℕ) (b : Bool) (r told : Result Flushed Refusal) → told ≡ told_by b r → IfOk r (λ f. f.worker ≡ log) → IfOk told (λ f. f.worker ≡ log)
+whose_is_told log b r told so ok = subst (λ (x : Result Flushed Refusal). IfOk x (λ f. f.worker ≡ log)) (sym so) (told_whose log b r ok)
+
+module _ {D : Type 0} (is_honest : D → Bool) (state : D → DiskState) (failures : D → ℕ) (was_refused : D → Bool) (log : ℕ) (before after : StoreLog D) (whose : worker_of before ≡ log) (seen : Seen) where
+  given_up_so : (r : Result (Unit {0}) Refusal) → OnOk r (GivesUpOlderLog is_honest state failures before after)
+      → IfErr r (λ e. FailsToGiveUpOlderLog is_honest state failures e before after)
+      → DoesShared is_honest state failures was_refused seen (GivenUp log (told_by (was_refused_at was_refused (after.log.generation - 1) after.log.files) r)) seen
+  given_up_so (Ok _) ok err = (record { before = before; after = after; whose = whose; does = ok }, refl)
+  given_up_so (Err e) ok err = (inr (record { before = before; after = after; whose = whose; does = record { refusal = e; fails = err; is = refl } }), refl)
+
+  pub given_up : (r told : Result (Unit {0}) Refusal) → told ≡ told_by (was_refused_at was_refused (after.log.generation - 1) after.log.files) r
+      → OnOk r (GivesUpOlderLog is_honest state failures before after)
+      → IfErr r (λ e. FailsToGiveUpOlderLog is_honest state failures e before after) → DoesShared is_honest state failures was_refused seen (GivenUp log told) seen
+  given_up r told so ok err = subst (λ (x : Result (Unit {0}) Refusal). DoesShared is_honest state failures was_refused seen (GivenUp log x) seen) (sym so) (given_up_so r ok err)

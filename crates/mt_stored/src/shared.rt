@@ -5,16 +5,18 @@ ghost use Rattle.mt_store_logs.specs.Places.{worker_of};
 ghost use Rattle.mt_stored.specs.Shared.{IsElsewhere};
 
 use crate::beginning::bring_up_and_begin;
-use crate::changes::change_of;
+use crate::changes::{LogChange, change_of};
 use crate::keeping::Learns;
 use crate::source::SharedBook;
 use log::{Log, warn};
 use mt_book::{Clerk, Desk};
 use mt_disk::Disk;
 use mt_history::Naming;
+use mt_log::FileKind;
 use mt_rows::Refusal;
 use mt_settle::Logs;
-use mt_store_logs::{Flushed, Generations, StoreLog, bring_up};
+use mt_store_files::StoreFile;
+use mt_store_logs::{FailedFile, Flushed, Generations, StoreLog, bring_up};
 use std::alloc::{AllocError, Global};
 use std::sync::ledger::Ledger;
 use std::sync::{Mutex, MutexGuard, Wait};
@@ -23,7 +25,7 @@ use std::time::Clock;
 /// The logs of a book, at most 255, and a clerk that drains it into them. Others give turns too, so a turn says nothing of the
 /// next one. Of each it says that it was one of a log of that worker, and what it added to the book's history. It warns of a
 /// log that closes, and of one that is open again. A log at the place of another worker has no turn, and is refused by
-/// `LogCount`.
+/// `LogCount`. If memory was refused to a log's disk, the refusal is `Memory`, and not `Device`.
 #[derive(Drop)]
 pub struct SharedLogs<'a, L: Ledger, J: Naming, R: Wait + Clock, D: Disk + Drop> {
     book: SharedBook<'a, L, J, R>,
@@ -53,7 +55,7 @@ impl<L: Ledger, J: Naming, C: Wait + Clock, D: Disk + Drop> Logs for SharedLogs<
 
     ghost logs = { λ s. min (length s.logs.now) 255 };
 
-    ghost does = { λ old turn new. DoesShared D.is_honest D.state D.failures old.book.clerk.mark turn new.book.clerk.mark };
+    ghost does = { λ old turn new. DoesShared D.is_honest D.state D.failures D.was_refused old.book.clerk.mark turn new.book.clerk.mark };
 
     fn count(&self) -> u8 {
         self.logs.len().min(255) as u8
@@ -66,12 +68,14 @@ impl<L: Ledger, J: Naming, C: Wait + Clock, D: Disk + Drop> Logs for SharedLogs<
         log: u8,
     ) -> Result<Flushed, Refusal> {
         let mut guard = lock_at(rt, self.logs, log)?;
-        let before = guard.mark();
+        let own = &mut *guard;
+        let before = own.mark();
         let steps = self.book.clerk.look(rt).steps;
-        let told = bring_up(alloc, &mut *guard, &mut self.book, steps);
+        let told = bring_up(alloc, &mut *own, &mut self.book, steps);
+        let file = own.failed_file();
         // Under the log's lock, so that its warnings come in the order of its changes.
-        warn_of(rt, log, before, guard.mark());
-        told
+        warn_of(rt, log, before, own.mark(), file);
+        file.tell(told)
     }
 
     fn begin_next<R: Wait + Clock + Log>(
@@ -82,15 +86,20 @@ impl<L: Ledger, J: Naming, C: Wait + Clock, D: Disk + Drop> Logs for SharedLogs<
         generation: u64,
     ) -> Result<Flushed, Refusal> {
         let mut guard = lock_at(rt, self.logs, log)?;
-        let before = guard.mark();
+        let own = &mut *guard;
+        let before = own.mark();
         let steps = self.book.clerk.look(rt).steps;
-        let told = bring_up_and_begin(alloc, &mut *guard, &mut self.book, steps, generation);
-        warn_of(rt, log, before, guard.mark());
-        told
+        let told = bring_up_and_begin(alloc, &mut *own, &mut self.book, steps, generation);
+        let file = own.failed_file();
+        warn_of(rt, log, before, own.mark(), file);
+        file.tell(told)
     }
 
     fn give_up_older<R: Wait + Clock + Log>(&mut self, rt: &R, log: u8) -> Result<(), Refusal> {
-        lock_at(rt, self.logs, log)?.give_up_older()
+        let mut guard = lock_at(rt, self.logs, log)?;
+        let own = &mut *guard;
+        let told = own.give_up_older();
+        own.older_file().tell(told)
     }
 
     fn generations<R: Wait>(&self, rt: &R, log: u8) -> Result<Generations, Refusal> {
@@ -128,10 +137,24 @@ fn lock_at<'a, D: Disk + Drop, R: Wait>(
     }
 }
 
-// Warns of a log that closed in a turn, or is open again.
-fn warn_of<R: Log>(rt: &R, log: u8, before: Option<u64>, after: Option<u64>) {
+// Warns of a log that closed in a turn, with the file whose disk failed and why, or is open again.
+fn warn_of<R: Log>(rt: &R, log: u8, before: Option<u64>, after: Option<u64>, failed: FailedFile) {
     if let Some(change) = change_of(log, before, after) {
-        warn!(rt; "{change}");
+        match (change, failed.error) {
+            (LogChange::Closed(_), Some(error)) => {
+                let file = file_of(log, failed.kind);
+                warn!(rt; "{change}: {file}: {error}");
+            }
+            _ => warn!(rt; "{change}"),
+        }
+    }
+}
+
+// The file of this kind of a worker's log.
+fn file_of(log: u8, kind: FileKind) -> StoreFile {
+    match kind {
+        FileKind::Plain => StoreFile::Log(usize::from(log)),
+        FileKind::Numbered(parity) => StoreFile::Numbered(usize::from(log), parity),
     }
 }
 

@@ -75,11 +75,12 @@ impl FlakyDisk {
         }
     }
 
-    /// The same, of whose failures the system tells this.
-    pub(crate) fn telling(self, error: SystemError) -> Self {
+    /// The same, of whose failures the system tells this, if anything.
+    pub(crate) fn telling(self, error: Option<SystemError>) -> Self {
         let (refuses, number) = match error {
-            SystemError::OutOfMemory => (true, None),
-            SystemError::Number(number) => (false, Some(number)),
+            Some(SystemError::OutOfMemory) => (true, None),
+            Some(SystemError::Number(number)) => (false, Some(number)),
+            None => (false, None),
         };
         FlakyDisk {
             refuses,

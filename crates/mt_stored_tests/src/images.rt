@@ -4,7 +4,7 @@ ghost use Rattle.std.specs.Prelude.{◌≤◌, vec_len, IfOk};
 ghost use Rattle.mt_state.specs.Begins.{HaveNoPairs};
 
 use crate::disks::{Fails, FlakyDisk};
-use mt_disk::MemDisk;
+use mt_disk::{MemDisk, SystemError};
 use mt_log::{BatchReader, FileKind, Front, LogFile, ReadBatch};
 use mt_log_files::WorkerFiles;
 use mt_recover::LogSlot;
@@ -37,11 +37,20 @@ pub(crate) fn tenant_7(rt: &impl Abort, alloc: Global) -> Tenants
 
 /// The files of a worker's log with these images: the plain one, the even and the odd one. Some calls of each fail.
 pub(crate) fn files_with(images: FileImages, fails: [Fails; 3]) -> WorkerFiles<FlakyDisk> {
+    files_telling(images, fails, None)
+}
+
+/// The same, of whose failures the system tells this, if anything.
+pub(crate) fn files_telling(
+    images: FileImages,
+    fails: [Fails; 3],
+    error: Option<SystemError>,
+) -> WorkerFiles<FlakyDisk> {
     let FileImages { plain, even, odd } = images;
     let [of_plain, of_even, of_odd] = fails;
-    let plain = FlakyDisk::new(plain, of_plain);
-    let even = FlakyDisk::new(even, of_even);
-    let odd = FlakyDisk::new(odd, of_odd);
+    let plain = FlakyDisk::new(plain, of_plain).telling(error);
+    let even = FlakyDisk::new(even, of_even).telling(error);
+    let odd = FlakyDisk::new(odd, of_odd).telling(error);
     WorkerFiles::closed(plain, even, odd)
 }
 

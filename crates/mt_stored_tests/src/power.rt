@@ -151,7 +151,7 @@ fn loses_nothing<L: Ledger, J: Naming, R: Wait + Clock + Log + Abort>(
 fn stops_at<R: Wait + Clock + Abort>(rt: &R, alloc: Global, disk: usize, call: u64) -> bool {
     // From the call on the disk makes none.
     let fails = (call, u64::MAX);
-    let store = store_of_two(rt, alloc, fails_of(disk, fails));
+    let store = store_of_two(rt, alloc, fails_of(disk, fails), None);
     let digests = digest_disks(rt, alloc, fails_of(disk.wrapping_sub(8), fails));
     let logged = Logged::new(rt, Level::Warn, Locked::new(rt, Vec::new(alloc)));
     let names = Names::new(store.state());

@@ -3,11 +3,14 @@
 ghost use Rattle.mt_book.specs.{Keeping.IsUnasked, Names.AreNames};
 
 use crate::disks::{Fails, FlakyDisk, NEVER, SOUND};
-use crate::images::{Left, files_with, hold_all, image_of, logs_left, plain_image, tenant_7};
+use crate::images::{
+    Left, files_telling, files_with, hold_all, image_of, logs_left, plain_image, tenant_7,
+};
 use crate::sessions::{Served, Session};
 use log::sink::Locked;
 use log::{Level, Log, Logged};
 use mt_book::Names;
+use mt_disk::SystemError;
 use mt_history::Naming;
 use mt_recover::LogSlot;
 use mt_rows::Refusal;
@@ -30,10 +33,23 @@ pub(crate) fn new_store(
 ) -> Store<FlakyDisk>
     ensures { IsUnasked result.source.state }
 {
+    store_telling(rt, alloc, fails, None, slots)
+}
+
+/// The same, of whose files' failures the system tells this, if anything.
+pub(crate) fn store_telling(
+    rt: &impl Abort,
+    alloc: Global,
+    fails: &[[Fails; 3]],
+    error: Option<SystemError>,
+    slots: StoreSlots<FlakyDisk>,
+) -> Store<FlakyDisk>
+    ensures { IsUnasked result.source.state }
+{
     let mut files = Vec::new(alloc);
     for fails in fails {
         let bare = plain_image(alloc, Vec::new(alloc));
-        assert!(rt; files.push(files_with(bare, *fails)).is_ok());
+        assert!(rt; files.push(files_telling(bare, *fails, error)).is_ok());
     }
     let tenants = tenant_7(rt, alloc);
     assert!(rt; !files.is_empty() && files.len() <= 64);
@@ -43,13 +59,18 @@ pub(crate) fn new_store(
     }
 }
 
-/// A new store of two workers, of whose eight disks these calls fail.
-pub(crate) fn store_of_two(rt: &impl Abort, alloc: Global, fails: [Fails; 8]) -> Store<FlakyDisk>
+/// A new store of two workers, of whose eight disks these calls fail. Of the logs' failures the system tells this, if anything.
+pub(crate) fn store_of_two(
+    rt: &impl Abort,
+    alloc: Global,
+    fails: [Fails; 8],
+    error: Option<SystemError>,
+) -> Store<FlakyDisk>
     ensures { IsUnasked result.source.state }
 {
     let [a, b, c, d, e, f, first, second] = fails;
     let slots = slots_with(alloc, [first, second]);
-    new_store(rt, alloc, &[[a, b, c], [d, e, f]], slots)
+    store_telling(rt, alloc, &[[a, b, c], [d, e, f]], error, slots)
 }
 
 /// The store that files and slots hold.
@@ -106,6 +127,8 @@ enum Act {
     Settles(usize),
     /// It settles, and is told that a device failed.
     Fails(usize),
+    /// It settles, and is told that memory was refused.
+    Refused(usize),
     /// Each log is open, and goes further up than when this was last seen.
     Rise,
     /// A log is closed.
@@ -194,6 +217,10 @@ impl<L: Ledger, J: Naming, R: Wait + Clock + Log + Abort> Served<'_, L, J, R> {
                 Some(session) => session.settle() == Err(Refusal::Device),
                 None => false,
             },
+            Act::Refused(worker) => match sessions.get_mut(worker) {
+                Some(session) => session.settle() == Err(Refusal::Memory),
+                None => false,
+            },
             Act::Rise => match self.least_mark() {
                 Some(least) => {
                     let is_later = *seen < least;
@@ -223,8 +250,14 @@ impl<L: Ledger, J: Naming, R: Wait + Clock + Log + Abort> Served<'_, L, J, R> {
 }
 
 // A store over such disks, and a story.
-fn run<R: Wait + Clock + Log + Abort>(rt: &R, alloc: Global, fails: &[[Fails; 3]], acts: &[Act]) {
-    let store = new_store(rt, alloc, fails, bare_slots(alloc));
+fn run<R: Wait + Clock + Log + Abort>(
+    rt: &R,
+    alloc: Global,
+    fails: &[[Fails; 3]],
+    error: Option<SystemError>,
+    acts: &[Act],
+) {
+    let store = store_telling(rt, alloc, fails, error, bare_slots(alloc));
     let names = Names::new(store.state());
     run_named::<Brand, Brand, _>(rt, alloc, names, store, acts);
 }
@@ -289,9 +322,9 @@ const ONE_BUSY: [Act; 5] = [
 #[test]
 fn each_log_has_its_own_workers_changes_once(rt: HostRuntime) {
     let alloc = rt.alloc();
-    run(&rt, alloc, &[SOUND; 2], &TWO);
-    run(&rt, alloc, &[SOUND; 4], &FOUR);
-    run(&rt, alloc, &[SOUND; 4], &ONE_BUSY);
+    run(&rt, alloc, &[SOUND; 2], None, &TWO);
+    run(&rt, alloc, &[SOUND; 4], None, &FOUR);
+    run(&rt, alloc, &[SOUND; 4], None, &ONE_BUSY);
 }
 
 // The disk of log 1 fails four times in a row: at the append of the first Settle, and then at the first call of
@@ -341,28 +374,66 @@ const CATCHES_UP: [Act; 9] = [
     Act::Settles(0),
 ];
 
+// The disk of log 1 has no memory for the append of the first Settle, nor for the first call of the opening after it.
+const WANTS_MEMORY: [Act; 9] = [
+    Act::Puts(0, 10),
+    Act::Puts(1, 10),
+    Act::Refused(0),
+    Act::Closed(1),
+    Act::Refused(1),
+    Act::Puts(1, 5),
+    Act::Settles(0),
+    Act::Open(1),
+    Act::Puts(0, 1),
+];
+
 const WARNINGS: &str =
     "[WARN  mt_stored::shared] log 1: its disk failed; it is closed until a write succeeds
 [WARN  mt_stored::shared] log 1: open again
 ";
 
-// A story over two logs, the second of whose plain files fails; what is warned of.
-fn run_failing<R: Wait + Clock + Abort>(rt: &R, alloc: Global, fails: Fails, acts: &[Act]) {
+const FULL: &str =
+    "[WARN  mt_stored::shared] log 1: its disk failed; it is closed until a write succeeds: wal-01: no space left on device
+[WARN  mt_stored::shared] log 1: open again
+";
+
+const REFUSED: &str =
+    "[WARN  mt_stored::shared] log 1: its disk failed; it is closed until a write succeeds: wal-01: out of memory
+[WARN  mt_stored::shared] log 1: open again
+";
+
+// A story over two logs, the second of whose plain files fails, and the system tells why; what is warned of.
+fn run_failing<R: Wait + Clock + Abort>(
+    rt: &R,
+    alloc: Global,
+    fails: Fails,
+    error: Option<SystemError>,
+    acts: &[Act],
+    warnings: &str,
+) {
     let logged = Logged::new(rt, Level::Warn, Locked::new(rt, Vec::new(alloc)));
-    run(&logged, alloc, &[SOUND, [fails, NEVER, NEVER]], acts);
+    run(&logged, alloc, &[SOUND, [fails, NEVER, NEVER]], error, acts);
     let (_, sink) = logged.into_parts();
     let lines = sink.into_inner();
-    assert_eq!(rt; lines.as_slice(), WARNINGS.as_bytes());
+    assert_eq!(rt; lines.as_slice(), warnings.as_bytes());
 }
 
 #[test]
 fn a_disk_that_fails_makes_nobody_wait(rt: HostRuntime) {
     let alloc = rt.alloc();
-    run_failing(&rt, alloc, (4, 8), &OWN_OPENS);
-    run_failing(&rt, alloc, (4, 8), &OTHER_OPENS);
+    let full = Some(SystemError::Number(28));
+    run_failing(&rt, alloc, (4, 8), None, &OWN_OPENS, WARNINGS);
+    run_failing(&rt, alloc, (4, 8), full, &OWN_OPENS, FULL);
+    run_failing(&rt, alloc, (4, 8), None, &OTHER_OPENS, WARNINGS);
+}
+
+#[test]
+fn a_settle_whose_log_is_refused_memory_tells_that(rt: HostRuntime) {
+    let refused = Some(SystemError::OutOfMemory);
+    run_failing(&rt, rt.alloc(), (4, 6), refused, &WANTS_MEMORY, REFUSED);
 }
 
 #[test]
 fn a_log_that_was_closed_for_long_comes_up_in_parts(rt: HostRuntime) {
-    run_failing(&rt, rt.alloc(), (4, 14), &CATCHES_UP);
+    run_failing(&rt, rt.alloc(), (4, 14), None, &CATCHES_UP, WARNINGS);
 }

@@ -48,8 +48,20 @@ struct Left {
 fn store_with(rt: &impl Abort, alloc: Global, case: Case) -> Store<FlakyDisk>
     ensures { IsUnasked result.source.state }
 {
+    store_telling(rt, alloc, case, None)
+}
+
+// The same. If it is a log's disk, the system tells this, if anything.
+fn store_telling(
+    rt: &impl Abort,
+    alloc: Global,
+    case: Case,
+    error: Option<SystemError>,
+) -> Store<FlakyDisk>
+    ensures { IsUnasked result.source.state }
+{
     let fails = (case.call, case.call.saturating_add(1));
-    store_of_two(rt, alloc, fails_of(case.disk, fails))
+    store_of_two(rt, alloc, fails_of(case.disk, fails), error)
 }
 
 // Two clients put two keys each in each round. Then one of them settles, and makes a turn. If the Settle is refused, it settles
@@ -173,10 +185,27 @@ fn each_turn_leaves_one_generation(rt: HostRuntime) {
     }
 }
 
-const NOT_BEGUN: &str =
-    "[WARN  mt_stored::shared] log 0: its disk failed; it is closed until a write succeeds
+// What the system tells of the file for a next log, and what is warned of.
+const NOT_BEGUN: [(Option<SystemError>, &str); 3] = [
+    (
+        None,
+        "[WARN  mt_stored::shared] log 0: its disk failed; it is closed until a write succeeds
 [WARN  mt_service::turners] a turn of the logs was not finished: E10
-";
+",
+    ),
+    (
+        Some(SystemError::Number(28)),
+        "[WARN  mt_stored::shared] log 0: its disk failed; it is closed until a write succeeds: wal-00-1: no space left on device
+[WARN  mt_service::turners] a turn of the logs was not finished: E10
+",
+    ),
+    (
+        Some(SystemError::OutOfMemory),
+        "[WARN  mt_stored::shared] log 0: its disk failed; it is closed until a write succeeds: wal-00-1: out of memory
+[WARN  mt_service::turners] a turn of the logs was not finished: E2
+",
+    ),
+];
 
 // The first call after those that make the file for generation 1 fails.
 #[test]
@@ -184,8 +213,11 @@ fn a_log_whose_next_one_is_not_begun_is_warned_of(rt: HostRuntime) {
     let alloc = rt.alloc();
     let (disk, call, rounds) = (2, 4, (0, 1));
     let case = Case { disk, call, rounds };
-    let (_, warnings) = run(&rt, alloc, store_with(&rt, alloc, case), case);
-    assert_eq!(rt; warnings.as_slice(), NOT_BEGUN.as_bytes());
+    for (error, told) in NOT_BEGUN {
+        let store = store_telling(&rt, alloc, case, error);
+        let (_, warnings) = run(&rt, alloc, store, case);
+        assert_eq!(rt; warnings.as_slice(), told.as_bytes());
+    }
 }
 
 // What is told of a checkpoint that is given up, in either slot.
@@ -255,7 +287,7 @@ fn a_checkpoint_that_is_given_up_is_warned_of_with_its_cause(rt: HostRuntime) {
     let alloc = rt.alloc();
     let (disk, call, rounds) = (6, 3, (0, 1));
     for (error, warning) in CAUSES {
-        let first = FlakyDisk::new(Vec::new(alloc), (call, call + 1)).telling(error);
+        let first = FlakyDisk::new(Vec::new(alloc), (call, call + 1)).telling(Some(error));
         let slots = StoreSlots::found(first, FlakyDisk::new(Vec::new(alloc), NEVER));
         let store = new_store(&rt, alloc, &[SOUND; 2], slots);
         let (_, warnings) = run(&rt, alloc, store, Case { disk, call, rounds });
@@ -291,6 +323,35 @@ fn a_turn_that_a_failed_call_stops_is_finished_by_the_next(rt: HostRuntime) {
     let alloc = rt.alloc();
     for (disk, rounds) in ROUNDS.iter().enumerate() {
         let calls = calls_of(&rt, alloc, disk, *rounds);
+        assert!(rt; calls >= 10, "disk {disk}: {calls} calls");
+    }
+}
+
+// Whether a warning tells that a device failed.
+fn tells_of_a_device(warnings: &[u8]) -> bool {
+    match str::from_utf8(warnings) {
+        Ok(warnings) => warnings.contains("E10"),
+        Err(_) => true,
+    }
+}
+
+// The disk of a log has no memory for one of its calls, each in turn after those that make its file.
+#[test]
+fn want_of_memory_at_any_call_of_a_logs_disk_is_told_as_that(rt: HostRuntime) {
+    let alloc = rt.alloc();
+    for (disk, rounds) in ROUNDS.iter().take(6).enumerate() {
+        let mut calls = 0u64;
+        for call in 4..u64::MAX {
+            let rounds = (0, *rounds);
+            let case = Case { disk, call, rounds };
+            let store = store_telling(&rt, alloc, case, Some(SystemError::OutOfMemory));
+            let (_, warnings) = run(&rt, alloc, store, case);
+            if warnings.is_empty() {
+                break;
+            }
+            assert!(rt; !tells_of_a_device(&warnings), "{case:?}");
+            calls = calls.saturating_add(1);
+        }
         assert!(rt; calls >= 10, "disk {disk}: {calls} calls");
     }
 }

@@ -19,17 +19,17 @@ returns-in-Ok-clause-history g c =
     let desk = scanner parts.1 parts.0.seen parts.0.share.amount in
     let tenants = c.args.options.now.tenants.items in
     let serves : SessionWorker g.row.L.Denot g.row.J.Denot g.row.R.Denot g.row.D.Denot → Bool → SessionWorker g.row.L.Denot g.row.J.Denot g.row.R.Denot g.row.D.Denot → Type 0 =
-    λ old right new. IsSession (AsksBook g.D.Disk.is_honest g.D.Disk.state g.D.Disk.failures) right old.caller new.caller in
+    λ old right new. IsSession (AsksBook g.D.Disk.is_honest g.D.Disk.state g.D.Disk.failures g.D.Disk.was_refused) right old.caller new.caller in
     let zip : AllZip (IsServed serves) workers.items served.items =
     subst (λ r. IfOk r (λ crew. AllZip (IsServed serves) workers.items crew.served.items)) c.in-Ok.is c.serve_beside-parts.ensures.served in
-    let turned = subst (λ (ts : List TenantQuota). Leaves acts g.D.Disk.is_honest g.D.Disk.state g.D.Disk.failures (turns g.D.Disk.is_honest g.D.Disk.state g.D.Disk.failures) logs_of g.G.Digests.does ts made desk parts.2)
+    let turned = subst (λ (ts : List TenantQuota). Leaves acts g.D.Disk.is_honest g.D.Disk.state g.D.Disk.failures (turns g.D.Disk.is_honest g.D.Disk.state g.D.Disk.failures g.D.Disk.was_refused) logs_of g.G.Digests.does ts made desk parts.2)
     c.in_ok-turner.ensures.tenants c.serve_beside-parts.ensures.turner in
     let many : length workers.items ≡ c.args.options.now.workers = omega (arith, c.in_ok-workers.ensures.workers, workers.ok.0) in
     on_values c.totals_of.result
     (λ totals. IsWhole (λ (k : Clerk g.row.L.Denot g.row.J.Denot). k.mark) (c.new-first.result ∷ c.new.result.clerk ∷ c.new.result.logs ∷ flat_map clerks_in served.items) totals.answers)
     (λ totals. totals.answers ≡ c.new.result.pass.share.amount + answers_in served.items) _ c.totals_of.ensures.whole c.totals_of.ensures.answers
     (λ totals whole shares first is none.
-    one_history g.row.L.Denot g.row.J.Denot g.row.R.Denot g.D.Disk.is_honest g.D.Disk.state g.D.Disk.failures g.G.Digests.does c.args.digests tenants c.new-first.result c.new.result.clerk c.new.result.logs workers.items served.items
+    one_history g.row.L.Denot g.row.J.Denot g.row.R.Denot g.D.Disk.is_honest g.D.Disk.state g.D.Disk.failures g.D.Disk.was_refused g.G.Digests.does c.args.digests tenants c.new-first.result c.new.result.clerk c.new.result.logs workers.items served.items
     totals.answers c.args.options.now.workers (length c.args.logs.now) whole zip many c.in_ok-workers.ensures.each made c.in_ok-turner.ensures.own desk parts.2 turned c.new.ensures.clerk c.new.ensures.logs
     (shares ∙ ap (λ (p : Pass g.row.L.Denot). p.share.amount + answers_in served.items) c.new.ensures.pass) first (ap (λ (m : MarkView StateView). m.log) c.new-first.ensures.mark ∙ is)
     (ap (λ (m : MarkView StateView). m.made) c.new-first.ensures.mark ∙ none))

@@ -1,16 +1,18 @@
--- What was flushed is the log that is locked, up to the steps of the book.
-use Rattle.std.proofs.{Common.{◌≡◌, ◌∙◌, ap}, lemmas.Result.IfOk-weaker}
-use Rattle.mt_store_logs.specs.{declared.store_log.StoreLog.StoreLog, Places.worker_of}
-use Rattle.mt_stored.proofs.SharedTurns.{brought}
+-- What was flushed is the log that is locked, up to the steps of the book. Its refusal is told as the file that failed tells it.
+use Rattle.std.proofs.{Common.{◌≡◌, ◌∙◌, ap, Bool}, lemmas.Result.IfOk-weaker}
+use Rattle.mt_store_logs.specs.{declared.store_log.StoreLog.StoreLog, Places.worker_of, FailedFiles.{is_refusal, told_by}}
+use Rattle.mt_stored.proofs.SharedTurns.{brought, whose_is_told}
 use Rattle.mt_stored.proofs.shared.SharedLogsLogs.bring_up.Goals as goal
 
 pub returns-clause-whose : goal.returns-clause-whose
 returns-clause-whose g c =
-    let own : worker_of c.deref_mut.result.now ≡ c.args.log = ap (λ (l : StoreLog g.row.D.Denot). worker_of l) c.deref_mut.ensures.value ∙ c.in_ok-guard.ensures.own in
-    IfOk-weaker c.bring_up-told.result _ _ (λ f e. e ∙ own) c.bring_up-told.ensures.whose
+    let own : worker_of c.deref_mut-own.result.now ≡ c.args.log = ap (λ (l : StoreLog g.row.D.Denot). worker_of l) c.deref_mut-own.ensures.value ∙ c.in_ok-guard.ensures.own in
+    whose_is_told c.args.log (is_refusal c.failed_file-file.result.error) c.bring_up-told.result c.tell.result c.tell.ensures
+    (IfOk-weaker c.bring_up-told.result _ _ (λ f e. e ∙ own) c.bring_up-told.ensures.whose)
 
 pub returns-clause-does : goal.returns-clause-does
 returns-clause-does g c =
-    brought g.D.Disk.is_honest g.D.Disk.state g.D.Disk.failures _ (λ book. book.clerk.mark) (λ s t worker batch given. given) c.args.log c.deref_mut.result.now c.bring_up-told.new.log _ c.bring_up-told.new.source c.args.self.now.book.clerk.mark
-    (ap (λ (l : StoreLog g.row.D.Denot). worker_of l) c.deref_mut.ensures.value ∙ c.in_ok-guard.ensures.own) c.look-steps.result c.look-steps.ensures.adds c.bring_up-told.result c.bring_up-told.ensures.ok
+    brought g.D.Disk.is_honest g.D.Disk.state g.D.Disk.failures _ (λ book. book.clerk.mark) (λ s t worker batch given. given) g.D.Disk.was_refused c.args.log c.deref_mut-own.result.now c.bring_up-told.new.log _ c.bring_up-told.new.source c.args.self.now.book.clerk.mark
+    (ap (λ (l : StoreLog g.row.D.Denot). worker_of l) c.deref_mut-own.ensures.value ∙ c.in_ok-guard.ensures.own) c.look-steps.result c.look-steps.ensures.adds c.bring_up-told.result c.tell.result
+    (c.tell.ensures ∙ ap (λ (b : Bool). told_by b c.bring_up-told.result) c.failed_file-file.ensures.refused) c.bring_up-told.ensures.ok
     c.bring_up-told.ensures.err
