@@ -2,18 +2,20 @@
 
 use crate::clients::{
     GET, GET_BOTH, OPEN, OPEN_8, PUT, PUT_L_FULL, PUT_OTHER, SETTLE, SETTLE_6, Told, WAIT,
+    are_told, connect,
 };
-use crate::folders::{SPARE, expect_file, opened};
+use crate::folders::{SPARE, expect_file, expect_told, opened};
 use crate::hosts::Host;
-use crate::stores::serve_told;
+use crate::stores::{serve_beside, serve_told};
 use mt_checkpoint::{Checkpoint, read_valid};
 use mt_disk::MemDisk;
 use mt_rows::TenantPair;
-use mt_service::OpenStore;
+use mt_service::{FolderDigests, OpenStore};
 use std::alloc::{Alloc, AllocError, Global};
 use std::fs::{self, File};
 use std::io;
 use std::net::{Net, TcpListener, TcpStream};
+use std::os::unix::fs::FileExt;
 use std::rt::Files;
 use std::test::Fail;
 
@@ -29,8 +31,8 @@ const CHECK_0: &str = "mt_server_tests_checks/check-0";
 
 const CHECK_1: &str = "mt_server_tests_checks/check-1";
 
-// A server of the store that a line names, which ends; its client is told so.
-fn serve<R: Host + Net<Listener = TcpListener, Stream = TcpStream> + Files<File = File>>(
+/// A server of the store that a line names, which ends; its client is told so.
+pub(crate) fn serve<R: Host + Net<Listener = TcpListener, Stream = TcpStream> + Files<File = File>>(
     rt: &R,
     alloc: Global,
     line: &str,
@@ -167,6 +169,36 @@ fn a_checkpoint_has_the_pairs_of_all_tenants(rt: HostRuntime) {
     // Tenant 8 may have one pair.
     serve(&rt, rt.alloc(), again, &[OPEN_8, GET, PUT_L_FULL]);
     let _ = fs::remove_dir_all(&rt, "mt_server_tests_tenants");
+}
+
+// A value changes in the checkpoint of a server's turn. A start tells that by the digest which the turn kept, and without the
+// digest it serves what is there.
+#[test]
+fn a_start_tells_a_value_that_changed(rt: HostRuntime) -> Result<(), Fail> {
+    let _ = fs::remove_dir_all(&rt, "mt_server_tests_rot");
+    let listener = TcpListener::bind(&rt, ("127.0.0.1", 0u16))?;
+    let client = connect(&rt, listener.local_addr()?.port())?;
+    let line =
+        "mt_server --workers 1 --store mt_server_tests_rot --checkpoint 1 --sessions 1 --create 7:100";
+    let OpenStore { store, mut folder } = opened(&rt, rt.alloc(), line);
+    let digests = FolderDigests::new(&rt, rt.alloc(), &mut folder);
+    let (_, end) = serve_beside(&rt, rt.alloc(), listener, line, store, digests, move || {
+        are_told(&client, &[OPEN, PUT, SETTLE_6])
+    });
+    assert!(rt; end.is_ok_and(|ending| ending.others == 0));
+    drop(folder);
+    let mut options = File::options();
+    options.write(true);
+    let file = options.open(&rt, "mt_server_tests_rot/check-0")?;
+    file.write_all_at(b"w", 34)?;
+    let told =
+        "3: E15: 'mt_server_tests_rot/check-0' isn't what was written, by its digest in 'mt_server_tests_rot/check-0.sha256': put all files back from one backup, or remove the digest to serve what is there";
+    let line = "mt_server --workers 1 --store mt_server_tests_rot 7:100";
+    expect_told(&rt, rt.alloc(), line, told);
+    fs::remove_file(&rt, "mt_server_tests_rot/check-0.sha256")?;
+    expect_told(&rt, rt.alloc(), line, "0: ");
+    fs::remove_dir_all(&rt, "mt_server_tests_rot")?;
+    Ok(())
 }
 
 // How often a client puts before it settles.

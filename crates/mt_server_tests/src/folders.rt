@@ -2,9 +2,10 @@
 
 ghost use Rattle.mt_book.specs.Keeping.{IsUnasked};
 
+use crate::checkpoints::serve;
 use crate::clients::{GET, OPEN, PUT, SETTLE_6};
 use crate::hosts::Host;
-use crate::stores::{LOG, NEXT_LOG, ONE_SESSION, RESUME, serve_told};
+use crate::stores::{LOG, NEXT_LOG, RESUME, serve_told};
 use crate::words::options_of;
 use mt_service::{OpenStore, open_store};
 use std::alloc::{Alloc, AllocError, Global};
@@ -26,8 +27,13 @@ fn told_of<R: Host + Files<File = File>>(rt: &R, alloc: Global, line: &str) -> S
     }
 }
 
-// The opening that a line names ends so: this is the status, and how what is said begins.
-fn expect_told<R: Host + Files<File = File>>(rt: &R, alloc: Global, line: &str, wanted: &str) {
+/// The opening that a line names ends so: this is the status, and how what is said begins.
+pub(crate) fn expect_told<R: Host + Files<File = File>>(
+    rt: &R,
+    alloc: Global,
+    line: &str,
+    wanted: &str,
+) {
     let told = told_of(rt, alloc, line);
     assert!(rt; told.starts_with(wanted), "{line}: {told}");
 }
@@ -352,31 +358,27 @@ const WITHOUT_A_LOG: [(&[u8], &[u8]); 4] = [
 #[test]
 fn a_store_comes_back_from_its_files(rt: HostRuntime) {
     let _ = fs::remove_dir_all(&rt, "mt_server_tests_files");
-    let new = "mt_server --workers 1 --store mt_server_tests_files --create 7:100";
-    let OpenStore { store, folder } = opened(&rt, rt.alloc(), new);
-    drop(serve_told(&rt, rt.alloc(), store, ONE_SESSION, &[OPEN, PUT, SETTLE_6]));
-    drop(folder);
+    let new = "mt_server --workers 1 --store mt_server_tests_files --sessions 1 --create 7:100";
+    serve(&rt, rt.alloc(), new, &[OPEN, PUT, SETTLE_6]);
     expect_file(&rt, "mt_server_tests_files/wal-00", &[LOG]);
     for path in BESIDE_THE_LOG {
         expect_file(&rt, path, &[SPARE]);
         assert!(rt; fs::remove_file(&rt, path).is_ok());
     }
-    let again = "mt_server --workers 1 --store mt_server_tests_files 7:100";
+    let again = "mt_server --workers 1 --store mt_server_tests_files --sessions 1 7:100";
     let OpenStore { store, folder } = opened(&rt, rt.alloc(), again);
     expect_file(&rt, "mt_server_tests_files/wal-00", &[&LOG[..54], RESUME]);
     for path in BESIDE_THE_LOG {
         expect_file(&rt, path, &[SPARE]);
     }
-    drop(serve_told(&rt, rt.alloc(), store, ONE_SESSION, &[OPEN, GET]));
+    drop(serve_told(&rt, rt.alloc(), store, again, &[OPEN, GET]));
     drop(folder);
     let [even, odd, _, _] = BESIDE_THE_LOG;
     for (before, after) in WITHOUT_A_LOG {
         for path in [even, odd] {
             assert!(rt; fs::write(&rt, path, before).is_ok());
         }
-        let OpenStore { store, folder } = opened(&rt, rt.alloc(), again);
-        drop(serve_told(&rt, rt.alloc(), store, ONE_SESSION, &[OPEN, GET]));
-        drop(folder);
+        serve(&rt, rt.alloc(), again, &[OPEN, GET]);
         for path in [even, odd] {
             expect_file(&rt, path, &[after]);
         }

@@ -9,7 +9,7 @@ use crate::clients::{
 use crate::hosts::Host;
 use crate::stores::{new_store, serve_beside, store_without_logs};
 use mt_disk::MemDisk;
-use mt_stored::Store;
+use mt_stored::{NoDigests, Store};
 use std::alloc::Global;
 use std::io;
 use std::net::{Net, TcpListener, TcpStream};
@@ -83,7 +83,7 @@ fn serve_scene<R: Host + Net<Listener = TcpListener, Stream = TcpStream>>(
     let (listener, port, first, second) = connected(rt).expect(rt, "a socket");
     // An accept then fails if nobody waits.
     assert!(rt; listener.set_nonblocking(line == THREE_SESSIONS).is_ok());
-    let (written, end) = serve_beside(rt, alloc, listener, line, store, move || {
+    let (written, end) = serve_beside(rt, alloc, listener, line, store, NoDigests {}, move || {
         play(scene, first, second)
     });
     let written = str::from_utf8(written.as_slice()).unwrap_or("no text");

@@ -19,7 +19,7 @@ use mt_rows::Tenants;
 use mt_service::{Ending, ServerFault, run_server};
 use mt_slots::StoreSlots;
 use mt_store_logs::StoreLog;
-use mt_stored::{NoDigests, Store};
+use mt_stored::{Digests, NoDigests, Store};
 use std::alloc::{AllocError, Global};
 use std::io;
 use std::marker::{Brand, Send, Sync};
@@ -140,27 +140,25 @@ pub(crate) const ONE_SESSION: &str = "mt_server --port 0 --workers 1 --sessions 
 pub(crate) type Served<D> = (Vec<u8>, Result<Ending<D>, ServerFault>);
 
 // Serves to the end, with the options of a line.
-fn serve_all<R: Threads + Wait + Clock + Log + Abort + Sync, D: Disk + Drop + Send>(
+fn serve_all<
+    R: Threads + Wait + Clock + Log + Abort + Sync,
+    D: Disk + Drop + Send,
+    G: Digests + Drop + Send,
+>(
     rt: &R,
     alloc: Global,
     listener: TcpListener,
     line: &str,
     store: Store<D>,
+    digests: G,
 ) -> Served<D>
     requires { IsUnasked store.source.state }
 {
     let options = options_of(rt, alloc, line);
     let names = Names::new(store.state());
     let mut out = Vec::new(alloc);
-    let end = run_server::<Brand, Brand, R, Vec<u8>, D, NoDigests>(
-        rt,
-        alloc,
-        names,
-        listener,
-        &options,
-        store,
-        NoDigests {},
-        &mut out,
+    let end = run_server::<Brand, Brand, R, Vec<u8>, D, G>(
+        rt, alloc, names, listener, &options, store, digests, &mut out,
     );
     (out, end)
 }
@@ -169,8 +167,17 @@ fn serve_all<R: Threads + Wait + Clock + Log + Abort + Sync, D: Disk + Drop + Se
 pub(crate) fn serve_beside<
     R: Threads + Wait + Clock + Log + Abort + Sync,
     D: Disk + Drop + Send,
+    G: Digests + Drop + Send,
     F: FnOnce() -> io::Result<bool>,
->(rt: &R, alloc: Global, listener: TcpListener, line: &str, store: Store<D>, play: F) -> Served<D>
+>(
+    rt: &R,
+    alloc: Global,
+    listener: TcpListener,
+    line: &str,
+    store: Store<D>,
+    digests: G,
+    play: F,
+) -> Served<D>
     requires unasked { IsUnasked store.source.state }
     requires plays { F.pre play }
 {
@@ -178,7 +185,7 @@ pub(crate) fn serve_beside<
         rt,
         move ||
             requires unasked { IsUnasked store.source.state }
-        { serve_all(rt, alloc, listener, line, store) },
+        { serve_all(rt, alloc, listener, line, store, digests) },
         play,
     );
     assert!(rt; played.expect(rt, "a socket"), "{line}");
@@ -195,7 +202,7 @@ pub(crate) fn serve_told<
     let listener = TcpListener::bind(rt, ("127.0.0.1", 0u16)).expect(rt, "a socket");
     let port = listener.local_addr().expect(rt, "a socket").port();
     let client = connect(rt, port).expect(rt, "a socket");
-    let (_, end) = serve_beside(rt, alloc, listener, line, store, move || {
+    let (_, end) = serve_beside(rt, alloc, listener, line, store, NoDigests {}, move || {
         are_told(&client, told)
     });
     end.expect(rt, "the server ends well").store

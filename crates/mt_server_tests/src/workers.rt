@@ -9,6 +9,7 @@ use crate::stores::{disk_with, image_in, new_store, serve_beside};
 use mt_disk::MemDisk;
 use mt_log::{BatchReader, FileKind, LogFile, ReadBatch};
 use mt_store_logs::StoreLog;
+use mt_stored::NoDigests;
 use std::alloc::{AllocError, Global};
 use std::io;
 use std::net::TcpStream;
@@ -68,7 +69,8 @@ fn each_worker_has_a_log_of_its_own(rt: HostRuntime) {
     let alloc = rt.alloc();
     let (listener, _, first, second) = connected(&rt).expect(&rt, "a socket");
     let store = new_store(&rt, alloc, 2, &[]);
-    let (_, end) = serve_beside(&rt, alloc, listener, TWO_WORKERS, store, move || {
+    let line = TWO_WORKERS;
+    let (_, end) = serve_beside(&rt, alloc, listener, line, store, NoDigests {}, move || {
         play(&rt, first, second)
     });
     let (_, logs, _) = end.expect(&rt, "the server ends well").store.into_parts();
@@ -102,7 +104,7 @@ fn eight_workers_answer_all_their_sessions(rt: HostRuntime) -> Result<(), Fail> 
     }
     let line = "mt_server --port 0 --workers 8 --sessions 8 7:100";
     let store = new_store(&rt, alloc, 8, &[]);
-    let (_, end) = serve_beside(&rt, alloc, listener, line, store, move || {
+    let (_, end) = serve_beside(&rt, alloc, listener, line, store, NoDigests {}, move || {
         are_answered(&clients)
     });
     assert!(rt; end.is_ok_and(|ending| ending.others == 0));

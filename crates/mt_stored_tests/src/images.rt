@@ -20,17 +20,11 @@ pub(crate) fn key_of(client: u8, number: u16) -> [u8; 3] {
     [client, high, low]
 }
 
-fn no_tenants(alloc: Global) -> Tenants
-    ensures { HaveNoPairs result }
-{
-    Tenants::new(alloc)
-}
-
 /// Tenant 7, which may have 200,000 pairs.
 pub(crate) fn tenant_7(rt: &impl Abort, alloc: Global) -> Tenants
     ensures { HaveNoPairs result }
 {
-    let mut tenants = no_tenants(alloc);
+    let mut tenants = Tenants::new(alloc);
     assert!(rt; tenants.add(7, 200_000).is_ok());
     tenants
 }
