@@ -1,10 +1,11 @@
 //! What is said of a start that fails, where it takes more than a folder to bring that about.
 
+use mt_disk::SystemError;
 use mt_log_generations::Parity;
 use mt_rows::Refusal;
 use mt_service::ServerFault;
 use mt_slots::Slot;
-use mt_store_files::{FolderFault, StoreFault, StoreFile};
+use mt_store_files::{FolderFault, FolderFile, StoreFault, StoreFile, Suspects};
 use std::io::{self, ErrorKind};
 use std::test::Fail;
 
@@ -24,16 +25,37 @@ fn faults_name_the_folder(rt: HostRuntime) -> Result<(), Fail> {
             "E10: 'a/b/wal-63': the device failed: see what the system says of it, and start again",
         ),
         (
-            StoreFault::Refused(Some(StoreFile::Numbered(0, Parity::Even)), Refusal::Device),
+            StoreFault::Device(
+                FolderFile::Store(StoreFile::Numbered(0, Parity::Even)),
+                None,
+            ),
             "E10: 'a/b/wal-00-0': the device failed: see what the system says of it, and start again",
         ),
         (
-            StoreFault::Refused(Some(StoreFile::Numbered(63, Parity::Odd)), Refusal::Device),
-            "E10: 'a/b/wal-63-1': the device failed: see what the system says of it, and start again",
+            StoreFault::Device(
+                FolderFile::Digest(StoreFile::Numbered(63, Parity::Odd)),
+                Some(SystemError::Number(28)),
+            ),
+            "E10: 'a/b/wal-63-1.sha256': the device failed: no space left on device",
         ),
         (
-            StoreFault::RefusedLog(63, Refusal::Device),
+            StoreFault::RefusedLog(Suspects::none(63), Refusal::Device),
             "E10: the log of worker 63 in 'a/b': the device failed: see what the system says of it, and start again",
+        ),
+        (
+            StoreFault::RefusedLog(
+                Suspects {
+                    worker: 3,
+                    plain: true,
+                    even: true,
+                    odd: true,
+                },
+                Refusal::StampsFall {
+                    number: 3,
+                    stamp: 5,
+                },
+            ),
+            "E13: 'a/b/wal-03' or 'a/b/wal-03-0' or 'a/b/wal-03-1' doesn't go with the other logs at step 5: put all files back from one backup",
         ),
         (
             StoreFault::Refused(Some(StoreFile::Slot(Slot::Second)), Refusal::Device),

@@ -44,7 +44,7 @@ const STARTS: [&str; 8] = [
     "/a --workers 2 --create 7:1 => 1: E10: the folder 'mt_server_tests_store/a': ",
     " --workers 2 --create 7:1 => 0: ",
     " --workers 2 7:1 => 0: ",
-    " --workers 1 7:1 => 3: E15: the logs of 'mt_server_tests_store' aren't all of one store; the folder has 2 logs for 1 worker: start with as many --workers ",
+    " --workers 1 7:1 => 3: E15: 'mt_server_tests_store/wal-00' is log 0 of 2, and log 0 of 1 was expected there: start with as many --workers ",
     " --workers 3 7:1 => 3: E15: 'mt_server_tests_store/wal-02' is missing; the folder has 2 logs for 3 workers: start with as many --workers ",
     " --workers 1 --create 7:1 => 0: ",
     " --workers 2 7:1 => 3: E15: 'mt_server_tests_store/wal-01' is missing; the folder has 1 log for 2 workers: start with as many --workers ",
@@ -153,7 +153,7 @@ const REFUSED: [(&[Edits], usize, &str); 8] = [
     (
         &[&[(7, 2)], &[(7, 2)]],
         55,
-        "3: E15: the logs of 'mt_server_tests_bad' aren't all of one store; the folder has 2 logs for 2 workers: put all files back from one backup",
+        "3: E15: 'mt_server_tests_bad/wal-01' is log 0 of 2, and log 1 of 2 was expected there: put all files back from one backup",
     ),
     (
         &[&[(7, 2)], &[(6, 1), (7, 2)]],
@@ -172,32 +172,55 @@ const REFUSED: [(&[Edits], usize, &str); 8] = [
     ),
 ];
 
-// What is changed of `NEXT_LOG`, which is cut to a length and stands in a numbered file beside the log `LOG`; and what is said
-// of the folder `mt_server_tests_bad`.
-const BAD_NUMBERED: [(&str, Edits, usize, &str); 6] = [
+// The plain file; what is changed of `NEXT_LOG`, which is cut to a length and stands in a numbered file beside it; and what is
+// said of the folder `mt_server_tests_bad`.
+const BAD_NUMBERED: [(&[u8], &str, Edits, usize, &str); 8] = [
     // The other file; an open gate without a header; no logs.
-    ("mt_server_tests_bad/wal-00-0", &[], 26, NO_LOG),
-    ("mt_server_tests_bad/wal-00-0", &[], 1, NO_LOG),
-    ("mt_server_tests_bad/wal-00-1", &[(8, 0)], 26, NO_LOG),
-    // An open gate without a batch; a start that isn't where the plain log ends; a generation without the one before it.
-    ("mt_server_tests_bad/wal-00-1", &[(25, 1)], 26, NO_BATCH),
-    ("mt_server_tests_bad/wal-00-1", &[(24, 5)], 26, NO_CHAIN),
-    ("mt_server_tests_bad/wal-00-1", &[(16, 3)], 26, NO_SET),
+    (LOG, EVEN, &[], 26, NO_EVEN_LOG),
+    (LOG, EVEN, &[], 1, NO_EVEN_LOG),
+    (
+        LOG,
+        ODD,
+        &[(8, 0)],
+        26,
+        "3: E12: 'mt_server_tests_bad/wal-00-1' is no log from byte 0 on: put ",
+    ),
+    // The log of another worker, of two.
+    (LOG, ODD, &[(7, 1), (8, 2)], 26, STRANGE),
+    // An open gate without a batch, beside the plain log and alone.
+    (LOG, ODD, &[(25, 1)], 26, NO_BATCH),
+    (
+        SPARE,
+        ODD,
+        &[(25, 1)],
+        26,
+        "3: E12: 'mt_server_tests_bad/wal-00-1' is no log from byte 25 on: put ",
+    ),
+    // A start that isn't where the plain log ends; a generation without the one before it.
+    (LOG, ODD, &[(24, 5)], 26, NO_CHAIN),
+    (LOG, ODD, &[(16, 3)], 26, NO_SET),
 ];
+
+const EVEN: &str = "mt_server_tests_bad/wal-00-0";
+
+const ODD: &str = "mt_server_tests_bad/wal-00-1";
 
 const NO_PLAIN_LOG: &str = "3: E12: 'mt_server_tests_bad/wal-00' is no log from byte 0 on: ";
 
 const NO_SET: &str =
     "3: E15: the logs of 'mt_server_tests_bad' aren't all of one store; the folder has 1 log for 1 worker: put all files back from one backup";
 
-const NO_LOG: &str =
-    "3: E12: the log of worker 0 in 'mt_server_tests_bad' is no log from byte 0 on: put all files back from one backup";
+const NO_EVEN_LOG: &str =
+    "3: E12: 'mt_server_tests_bad/wal-00-0' is no log from byte 0 on: put all files back from one backup";
+
+const STRANGE: &str =
+    "3: E15: 'mt_server_tests_bad/wal-00-1' is log 1 of 2, and log 0 of 1 was expected there: put all files back from one backup";
 
 const NO_BATCH: &str =
-    "3: E12: the log of worker 0 in 'mt_server_tests_bad' is no log from byte 25 on: put all files back from one backup";
+    "3: E12: 'mt_server_tests_bad/wal-00' or 'mt_server_tests_bad/wal-00-1' is no log from byte 25 on: put all files back from one backup";
 
 const NO_CHAIN: &str =
-    "3: E13: the log of worker 0 in 'mt_server_tests_bad' doesn't go with the other logs at step 5: put all files back from one backup";
+    "3: E13: 'mt_server_tests_bad/wal-00' or 'mt_server_tests_bad/wal-00-1' doesn't go with the other logs at step 5: put all files back from one backup";
 
 // A log with these bytes changed, cut to a length.
 fn image_with(alloc: Global, log: &[u8], edits: Edits, len: usize) -> Result<Vec<u8>, AllocError> {
@@ -256,10 +279,11 @@ fn spares_of(alloc: Global, workers: usize) -> Result<Vec<String>, AllocError> {
     Ok(paths)
 }
 
-// A store in that folder with the log `LOG` and such a numbered file is refused so.
-fn expect_numbered_refused<R: Host + Files<File = File>>(
+// A store in that folder with such a plain file and such a numbered one is refused so, and both stay.
+fn expect_numbered_refused<R: Host + Files<File = File> + Alloc>(
     rt: &R,
     alloc: Global,
+    plain: &[u8],
     numbered: &str,
     image: &[u8],
     told: &str,
@@ -267,9 +291,11 @@ fn expect_numbered_refused<R: Host + Files<File = File>>(
     let new = "mt_server --workers 1 --store mt_server_tests_bad 7:1 --create";
     expect_told(rt, alloc, new, "0: ");
     fs::write(rt, numbered, image).expect(rt, "a file");
-    fs::write(rt, "mt_server_tests_bad/wal-00", LOG).expect(rt, "a file");
+    fs::write(rt, "mt_server_tests_bad/wal-00", plain).expect(rt, "a file");
     let line = "mt_server --workers 1 --store mt_server_tests_bad 7:1";
     expect_told(rt, alloc, line, told);
+    expect_file(rt, "mt_server_tests_bad/wal-00", &[plain]);
+    expect_file(rt, numbered, &[image]);
 }
 
 #[test]
@@ -278,9 +304,9 @@ fn hostile_logs_are_refused(rt: HostRuntime) -> Result<(), Fail> {
     for (logs, len, told) in REFUSED {
         expect_refused(&rt, rt.alloc(), logs, len, told);
     }
-    for (numbered, edits, len, told) in BAD_NUMBERED {
+    for (plain, numbered, edits, len, told) in BAD_NUMBERED {
         let image = image_with(rt.alloc(), NEXT_LOG, edits, len)?;
-        expect_numbered_refused(&rt, rt.alloc(), numbered, image.as_slice(), told);
+        expect_numbered_refused(&rt, rt.alloc(), plain, numbered, image.as_slice(), told);
     }
     fs::remove_dir_all(&rt, "mt_server_tests_bad")?;
     Ok(())

@@ -79,7 +79,7 @@ const ROWS: [Row; 7] = [
     (
         &[("wal-00", b"MTLOG\x03"), ("wal-00-0", b"\x01")],
         "7:1",
-        "wal-00: the first log of worker 0, 6 bytes, has no digest\nwal-00-0: no header after an open gate, 1 bytes, has no digest\n3: E12: the log of worker 0 in 'mt_server_tests_verified' is no log from byte 0 on: ",
+        "wal-00: the first log of worker 0, 6 bytes, has no digest\nwal-00-0: no header after an open gate, 1 bytes, has no digest\n3: E12: 'mt_server_tests_verified/wal-00' or 'mt_server_tests_verified/wal-00-0' is no log from byte 0 on: ",
     ),
     (
         &[("wal-00", LOG)],

@@ -3,7 +3,7 @@ use Rattle.std.proofs.Common.{◌≡◌, ℕ, Option, Some, length, sym, subst, 
 use Rattle.mt_rows.specs.{Accounts.Accounts, Rows.Bytes}
 use Rattle.mt_options.specs.{declared.options.Options.Options, declared.options.StorePlace.StorePlace}
 use Rattle.mt_store_files.specs.{declared.fault.StoreFault.StoreFault, declared.read_file.ReadFile.ReadFile}
-use Rattle.mt_store_files.specs.{declared.fault.StoreFault.TheVariants.{System, DigestDevice, Memory as StoreMemory}, declared.names.FolderFile.TheVariants.Digest}
+use Rattle.mt_store_files.specs.{declared.fault.StoreFault.TheVariants.{System, Device, Memory as StoreMemory}, declared.names.FolderFile.TheVariants.Digest}
 use Rattle.mt_store_files.specs.{declared.names.StoreFile.StoreFile, declared.names.StoreFile.TheVariants.{Log, Numbered, Slot}, Faults.{IsOfDigests, IsOfStore as IsOfStoreFile}}
 use Rattle.mt_streams.{specs.Failures.{NoFewer, Failed}, proofs.FailureLemmas.{then-Failed}}
 use Rattle.mt_service.specs.{declared.faults.ServerFault.ServerFault, declared.faults.ServerFault.TheVariants.{Refused, Memory, Store, Output}}
@@ -49,6 +49,6 @@ store_of_all (Numbered worker parity) is = absurd (omega arith)
 
 pub digests_of_all : (e : StoreFault) → IsOfDigests 0 e → IsOfDigests 64 e
 digests_of_all (System (Some (Digest file)) error) is = store_of_all file is
-digests_of_all (DigestDevice file) is = store_of_all file is
+digests_of_all (Device (Digest file) error) is = store_of_all file is
 digests_of_all StoreMemory is = tt
 digests_of_all e is = absurd is

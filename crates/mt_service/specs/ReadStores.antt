@@ -43,7 +43,7 @@ module _ {D : Type 0} (is_honest : D → Bool) (holds : D → DiskState) (failur
   -- and it is told as this
   abbrev pub IsOfRecovery : ℕ → Accounts → StoreFault → Type 0
   IsOfRecovery workers accounts fault =
-      (why : StoreRefusal) × IsNotRecoveredFrom workers accounts why × Tells workers why fault
+      (why : StoreRefusal) × IsNotRecoveredFrom workers accounts why × Tells is_honest holds workers why fault
 
   -- why the store of a folder is not read: its folder, a file that isn't what was written, its files, or what they hold
   abbrev pub IsOfReading : ℕ → Accounts → StoreFault → Type 0

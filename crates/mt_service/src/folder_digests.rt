@@ -2,31 +2,35 @@
 
 ghost use Rattle.std.specs.Prelude.{◌≡◌};
 ghost use Rattle.mt_service.specs.FolderDigests.{log_file};
+ghost use Rattle.mt_store_files.specs.Faults.{refusal_of};
 
+use crate::warnings::DigestWarning;
+use log::{Log, warn};
 use mt_log_generations::Parity;
 use mt_rows::Refusal;
 use mt_slots::{FileDigest, Slot};
-use mt_store_files::{StoreFile, StoreFolder};
+use mt_store_files::{StoreFault, StoreFile, StoreFolder};
 use mt_stored::Digests;
 use std::alloc::Global;
 use std::fs::File;
 use std::rt::Files;
 
-/// The digests of a store's files, each in a file beside its own. Without a folder none are kept.
+/// The digests of a store's files, each in a file beside its own. Without a folder none are kept. It warns of a file that
+/// fails, and why.
 #[derive(Drop)]
-pub struct FolderDigests<'a, R: Files<File = File>> {
+pub struct FolderDigests<'a, R: Files<File = File> + Log> {
     rt: &'a R,
     alloc: Global,
     folder: &'a mut Option<StoreFolder>,
 }
 
-impl<'a, R: Files<File = File>> FolderDigests<'a, R> {
+impl<'a, R: Files<File = File> + Log> FolderDigests<'a, R> {
     pub fn new(rt: &'a R, alloc: Global, folder: &'a mut Option<StoreFolder>) -> Self {
         FolderDigests { rt, alloc, folder }
     }
 }
 
-impl<R: Files<File = File>> FolderDigests<'_, R> {
+impl<R: Files<File = File> + Log> FolderDigests<'_, R> {
     // The digest of a file is cleared.
     fn clear(&mut self, file: StoreFile) -> Result<(), Refusal> {
         let Some(folder) = self.folder.as_mut() else {
@@ -34,7 +38,7 @@ impl<R: Files<File = File>> FolderDigests<'_, R> {
         };
         match folder.clear_digest(self.rt, self.alloc, file) {
             Ok(_) => Ok(()),
-            Err(fault) => Err(fault.refusal()),
+            Err(fault) => Err(warned_of(self.rt, &fault)),
         }
     }
 
@@ -45,12 +49,21 @@ impl<R: Files<File = File>> FolderDigests<'_, R> {
         };
         match folder.keep_digest_of(self.rt, self.alloc, file) {
             Ok(_) => Ok(()),
-            Err(fault) => Err(fault.refusal()),
+            Err(fault) => Err(warned_of(self.rt, &fault)),
         }
     }
 }
 
-impl<R: Files<File = File>> Digests for FolderDigests<'_, R> {
+// Warns of a digest that was not cleared or kept, and gives the refusal by which that is told.
+fn warned_of<R: Log>(rt: &R, fault: &StoreFault) -> Refusal
+    ensures { result ≡ refusal_of fault.now }
+{
+    let warning = DigestWarning(fault);
+    warn!(rt; "{warning}");
+    fault.refusal()
+}
+
+impl<R: Files<File = File> + Log> Digests for FolderDigests<'_, R> {
     ghost does = { λ old call new. Unit {0} };
 
     fn clear_logs(&mut self, logs: u8, generation: u64) -> Result<(), Refusal> {
@@ -77,7 +90,7 @@ impl<R: Files<File = File>> Digests for FolderDigests<'_, R> {
         };
         match folder.keep_digest(self.rt, self.alloc, StoreFile::Slot(slot), digest) {
             Ok(_) => Ok(()),
-            Err(fault) => Err(fault.refusal()),
+            Err(fault) => Err(warned_of(self.rt, &fault)),
         }
     }
 }

@@ -4,7 +4,7 @@ ghost use Rattle.std.specs.Prelude.{◌≡◌, ◌≤◌, [], true, false, IfOk,
 ghost use Rattle.mt_state.specs.Begins.{HaveNoPairs};
 ghost use Rattle.mt_book.specs.Keeping.{IsUnasked};
 ghost use Rattle.mt_service.specs.{ServedStore.{IsOpened, IsOfOpening, IsMadeOn, IsRecovered, IsOfPlace, IsAtPlace}, ReadStores.{IsRecoveredFrom, ComparesFirst, IsOfReading}};
-ghost use Rattle.mt_service.specs.StoreFaults.{fault_of, plain_file, IsToldAs, Tells, IsToldOf};
+ghost use Rattle.mt_service.specs.StoreFaults.{fault_of, plain_file, IsToldAs, TellsBy, IsToldOf};
 
 use crate::accounts::accounts_of;
 use crate::faults::ServerFault;
@@ -14,7 +14,9 @@ use mt_disk::FileDisk;
 use mt_options::{Options, StorePlace};
 use mt_rows::{Refusal, Tenants};
 use mt_slots::SlotFault;
-use mt_store_files::{FolderFault, FolderSystem, OsFolder, StoreFault, StoreFile, StoreFolder};
+use mt_store_files::{
+    FolderFault, FolderSystem, OsFolder, StoreFault, StoreFile, StoreFolder, Suspects,
+};
 use mt_store_logs::{LogRefusal, StoreRefusal};
 use mt_stored::Store;
 use std::alloc::Global;
@@ -204,7 +206,7 @@ fn refused(why: StoreRefusal) -> StoreFault
                 log: Some(worker),
                 refusal: Refusal::Device,
             },
-        ) => StoreFault::RefusedLog(worker, Refusal::Device),
+        ) => StoreFault::RefusedLog(Suspects::none(worker), Refusal::Device),
         StoreRefusal::Logs(LogRefusal { log, refusal }) => {
             StoreFault::Refused(plain_file(log, refusal), refusal)
         }
@@ -226,7 +228,8 @@ fn plain_file(log: Option<usize>, refusal: Refusal) -> Option<StoreFile>
     }
 }
 
-// The same, of a store whose logs so many workers asked for. If they are no set, the folder's logs are counted.
+// The same, of a store whose logs so many workers asked for. If they are no set, the folder's logs are counted, and their
+// headers compared.
 fn not_recovered<R: Files<File = File>, S: FolderSystem + Drop>(
     rt: &R,
     alloc: Global,
@@ -234,33 +237,32 @@ fn not_recovered<R: Files<File = File>, S: FolderSystem + Drop>(
     workers: u8,
     why: StoreRefusal,
 ) -> StoreFault
-    ensures { Tells workers why result }
+    ensures { TellsBy S.File.is_honest S.File.state workers why result (S.calls folder.old.system) (S.calls folder.new.system) }
 {
     match why.refusal() {
         Refusal::LogCount => match folder.count_logs(rt, alloc, workers) {
-            Ok(counts) => StoreFault::LogCount(counts),
+            Ok(counts) => match folder.compare_headers(rt, alloc, workers) {
+                Ok(()) => StoreFault::LogCount(counts),
+                Err(strange) => StoreFault::Strange(strange, counts),
+            },
             Err(_) => refused(why),
         },
         _ => told_as(rt, alloc, folder, refused(why)),
     }
 }
 
-// A fault of a plain file, told of the log and no file if a numbered file of its worker may have a log too.
+// A fault of a plain file, told of those files of its worker's log in which the cause may be.
 fn told_as<R: Files<File = File>, S: FolderSystem + Drop>(
     rt: &R,
     alloc: Global,
     folder: &mut StoreFolder<S>,
     fault: StoreFault,
 ) -> StoreFault
-    ensures { IsToldAs fault result }
+    ensures { IsToldAs S.File.is_honest S.File.state fault result (S.calls folder.old.system) (S.calls folder.new.system) }
 {
     match fault {
         StoreFault::Refused(Some(StoreFile::Log(worker)), refusal) => {
-            if folder.may_have_numbered(rt, alloc, worker) {
-                StoreFault::RefusedLog(worker, refusal)
-            } else {
-                StoreFault::Refused(Some(StoreFile::Log(worker)), refusal)
-            }
+            StoreFault::RefusedLog(folder.suspects(rt, alloc, worker, refusal), refusal)
         }
         fault => fault,
     }

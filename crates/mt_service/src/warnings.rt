@@ -1,8 +1,8 @@
-//! Why a turn of all logs was stopped, in the words of a warning.
+//! Why a turn of all logs was stopped, or a digest was not kept, in the words of a warning.
 
 use mt_disk::SystemError;
 use mt_slots::FaultCause;
-use mt_store_files::StoreFile;
+use mt_store_files::{StoreFault, StoreFile};
 use mt_stored::{CheckpointStop, Digested, TurnStop};
 use std::fmt;
 
@@ -53,6 +53,24 @@ impl fmt::Display for TurnWarning {
                 "a turn of the logs was not finished: the digests of generation {generation}: {refusal}"
             ),
             TurnStop::Logs(refusal) => write!(f, "a turn of the logs was not finished: {refusal}"),
+        }
+    }
+}
+
+/// A digest was not cleared or not kept, and why: the file of the folder at which the system failed, if it did at one.
+#[derive(Clone, Copy)]
+pub(crate) struct DigestWarning<'a>(pub &'a StoreFault);
+
+impl fmt::Display for DigestWarning<'_> {
+    fn fmt<W: fmt::Write>(&self, f: &mut fmt::Formatter<W>) -> fmt::Result {
+        f.write_str("a digest was not kept: ")?;
+        match self.0 {
+            StoreFault::Device(file, Some(error)) => write!(f, "{file}: {error}"),
+            StoreFault::Device(file, None) => write!(f, "{file}: its disk failed"),
+            StoreFault::System(Some(file), error) => write!(f, "{file}: {error}"),
+            StoreFault::System(None, error) => write!(f, "the folder: {error}"),
+            StoreFault::Memory => f.write_str("out of memory"),
+            fault => write!(f, "{}", fault.refusal()),
         }
     }
 }

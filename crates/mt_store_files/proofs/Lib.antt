@@ -1,3 +1,5 @@
 mod CallLemmas
 mod FoundLemmas
 mod CheckLemmas
+mod StrangeLemmas
+mod LabelLemmas

@@ -6,17 +6,17 @@ use Rattle.mt_digests.specs.{Digests.{digest_in, open_digest, DoAgree}, declared
 use Rattle.mt_digests.specs.declared.fault.DigestFault.TheVariants as causes
 use Rattle.mt_store_files.specs.{declared.names.StoreFile.StoreFile, declared.names.StoreFile.TheVariants.Slot, declared.names.FolderFile.TheVariants.{Store, Digest}}
 use Rattle.mt_store_files.specs.{declared.fault.StoreFault.StoreFault, declared.fault.StoreFault.TheVariants.{Memory, Spoiled}}
-use Rattle.mt_store_files.specs.{Calls.{FolderCall, Opened, Missed, Adds, open_call}, Faults.{IsOfFile, device_fault}, FoundLogs.files_up_to}
+use Rattle.mt_store_files.specs.{Calls.{FolderCall, Opened, Missed, Adds, open_call}, Faults.{IsOfFile, IsOfDisk}, FoundLogs.files_up_to}
 
 -- the files that are compared, in their order: both slots, and the logs of so many workers
 abbrev pub files_to_check : ℕ → List StoreFile
 files_to_check workers = Slot First ∷ Slot Second ∷ files_up_to workers
 
--- why a file was not compared with its digest
-abbrev pub fault_of_digest : StoreFile → DigestFault → StoreFault
-fault_of_digest file causes.Device = device_fault (Store file)
-fault_of_digest file causes.DigestDevice = device_fault (Digest file)
-fault_of_digest file causes.Memory = Memory
+-- why a file was not compared with its digest: as the disk tells it that failed, of which it is known whether memory was refused to it
+abbrev pub IsOfDigestFault : Bool → Bool → StoreFile → DigestFault → StoreFault → Type 0
+IsOfDigestFault refused digest_refused file causes.Device fault = IsOfDisk refused (Store file) fault
+IsOfDigestFault refused digest_refused file causes.DigestDevice fault = IsOfDisk digest_refused (Digest file) fault
+IsOfDigestFault refused digest_refused file causes.Memory fault = fault ≡ Memory
 
 -- why a file is not found to agree with its digest
 abbrev pub IsOfFileCheck : StoreFile → StoreFault → Type 0

@@ -8,3 +8,6 @@ pub mod Changes
 pub mod Reports
 pub mod Digests
 pub mod Checks
+pub mod Labels
+pub mod Strange
+pub mod Suspects

@@ -2,8 +2,8 @@
 
 ghost use Rattle.std.specs.Prelude.{◌≡◌, ◌⊎◌, ◌+◌, ◌∷◌, [], IfOk, IfErr};
 ghost use Rattle.mt_store_files.specs.{declared.names.FolderFile.TheVariants.{Store as StoreName, Digest as DigestName}};
-ghost use Rattle.mt_store_files.specs.{Faults.{IsOfFile, IsOfSync, IsOfCheck}, FoundLogs.{files_of, files_up_to}};
-ghost use Rattle.mt_store_files.specs.{Digests.{Clears, Keeps, KeepsFound, FindsDigest, IsWritten}, Checks.{Checks, IsOfFileCheck, fault_of_digest, files_to_check}};
+ghost use Rattle.mt_store_files.specs.{Faults.{IsOfFile, IsOfSync, IsOfCheck, IsOfDisk}, FoundLogs.{files_of, files_up_to}};
+ghost use Rattle.mt_store_files.specs.{Digests.{Clears, Keeps, KeepsFound, FindsDigest, IsCleared, IsWritten}, Checks.{Checks, IsOfFileCheck, IsOfDigestFault, files_to_check}};
 
 use crate::fault::StoreFault;
 use crate::folder::StoreFolder;
@@ -29,13 +29,9 @@ impl<S: FolderSystem + Drop> StoreFolder<S> {
         ensures cleared { IfOk result (λ left. Clears S.File.is_honest S.File.state file left (S.calls self.old.system) (S.calls self.new.system)) }
         ensures made { self.new.made ≡ self.old.made }
     {
-        let digest = FolderFile::Digest(file);
-        let Some(mut disk) = self.system.open(rt, alloc, digest)? else {
-            return Ok(None);
-        };
-        match clear_digest(&mut disk) {
-            Ok(()) => Ok(Some(disk)),
-            Err(_) => Err(StoreFault::DigestDevice(file)),
+        match self.system.open(rt, alloc, FolderFile::Digest(file))? {
+            Some(disk) => Ok(Some(cleared(disk, file)?)),
+            None => Ok(None),
         }
     }
 
@@ -100,6 +96,18 @@ impl<S: FolderSystem + Drop> StoreFolder<S> {
     }
 }
 
+// The digest file of a file, without a digest.
+fn cleared<D: Disk + Drop>(mut disk: D, file: StoreFile) -> Result<D, StoreFault>
+    ensures fault { IfErr result (IsOfFile (DigestName file)) }
+    ensures told { IfErr result (λ e. (left : D) × IsOfDisk (D.was_refused left) (DigestName file) e) }
+    ensures cleared { IfOk result (IsCleared D.is_honest D.state (D.state disk)) }
+{
+    match clear_digest(&mut disk) {
+        Ok(()) => Ok(disk),
+        Err(_) => Err(StoreFault::of_disk(FolderFile::Digest(file), &disk)),
+    }
+}
+
 // A digest file with this digest of a file.
 fn written<D: Disk + Drop>(
     mut disk: D,
@@ -107,11 +115,12 @@ fn written<D: Disk + Drop>(
     digest: FileDigest,
 ) -> Result<D, StoreFault>
     ensures fault { IfErr result (IsOfFile (DigestName file)) }
+    ensures told { IfErr result (λ e. (left : D) × IsOfDisk (D.was_refused left) (DigestName file) e) }
     ensures written { IfOk result (IsWritten D.is_honest D.state digest (D.state disk)) }
 {
     match write_digest(&mut disk, digest) {
         Ok(()) => Ok(disk),
-        Err(_) => Err(StoreFault::DigestDevice(file)),
+        Err(_) => Err(StoreFault::of_disk(FolderFile::Digest(file), &disk)),
     }
 }
 
@@ -130,7 +139,10 @@ fn find_digest<R: Files<File = File>, S: FolderSystem>(
     };
     match digest_of(alloc, &mut disk) {
         Ok(digest) => Ok(digest),
-        Err(fault) => Err(told_of(file, fault)),
+        Err(DigestFault::Memory) => Err(StoreFault::Memory),
+        Err(DigestFault::Device | DigestFault::DigestDevice) => {
+            Err(StoreFault::of_disk(FolderFile::Store(file), &disk))
+        }
     }
 }
 
@@ -184,17 +196,18 @@ fn check_file<R: Files<File = File>, S: FolderSystem>(
     match agrees(alloc, &mut disk, &mut digests) {
         Ok(true) => Ok(()),
         Ok(false) => Err(StoreFault::Spoiled(file)),
-        Err(fault) => Err(told_of(file, fault)),
+        Err(fault) => Err(told_of(file, fault, &disk, &digests)),
     }
 }
 
-// Why a file was not compared with its digest.
-fn told_of(file: StoreFile, fault: DigestFault) -> StoreFault
-    ensures { result ≡ fault_of_digest file fault }
+// Why a file was not compared with its digest. One of these disks failed, unless memory was refused elsewhere.
+fn told_of<D: Disk>(file: StoreFile, fault: DigestFault, disk: &D, digests: &D) -> StoreFault
+    ensures told { IsOfDigestFault (D.was_refused disk.now) (D.was_refused digests.now) file fault result }
+    ensures check { IsOfFileCheck file result }
 {
     match fault {
-        DigestFault::Device => StoreFault::device_at(FolderFile::Store(file)),
-        DigestFault::DigestDevice => StoreFault::device_at(FolderFile::Digest(file)),
+        DigestFault::Device => StoreFault::of_disk(FolderFile::Store(file), disk),
+        DigestFault::DigestDevice => StoreFault::of_disk(FolderFile::Digest(file), digests),
         DigestFault::Memory => StoreFault::Memory,
     }
 }

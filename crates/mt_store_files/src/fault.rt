@@ -1,9 +1,12 @@
 //! Why a store isn't served.
 
 ghost use Rattle.std.specs.Prelude.{◌≡◌};
-ghost use Rattle.mt_store_files.specs.{Faults.{refusal_of, status_of, device_fault}, declared.fault.StoreFault.TheVariants.{Memory as MemoryFault}};
+ghost use Rattle.mt_store_files.specs.{Faults.{refusal_of, status_of, IsOfDisk}, declared.fault.StoreFault.TheVariants.{Memory as MemoryFault}};
 
+use crate::labels::{StrangeLog, Suspects};
 use crate::names::{FolderFile, StoreFile};
+use mt_disk::{Disk, SystemError};
+use mt_log_generations::Parity;
 use mt_rows::Refusal;
 use std::alloc::{AllocError, AllocFailed};
 use std::error::Error;
@@ -31,14 +34,16 @@ pub enum StoreFault {
     Memory,
     /// The logs aren't those that they name themselves.
     LogCount(LogCounts),
+    /// The same, and this is the first file whose header names another log than the one of its place.
+    Strange(StrangeLog, LogCounts),
     /// The same, of a store in which these files were missing.
     Missing(Vec<StoreFile>),
     /// What stands in this file was refused, or that of all logs together.
     Refused(Option<StoreFile>, Refusal),
-    /// The log of this worker was refused. Which of its files is the cause isn't known.
-    RefusedLog(usize, Refusal),
-    /// The device failed at the digest file of this file.
-    DigestDevice(StoreFile),
+    /// The log of a worker was refused, in one of these files.
+    RefusedLog(Suspects, Refusal),
+    /// The device failed at this file, for this cause if the system told it.
+    Device(FolderFile, Option<SystemError>),
     /// This file isn't what was written, by its digest.
     Spoiled(StoreFile),
 }
@@ -49,12 +54,13 @@ impl StoreFault {
         ensures { result ≡ refusal_of self.now }
     {
         match self {
-            StoreFault::InUse | StoreFault::System(_, _) | StoreFault::DigestDevice(_) => {
+            StoreFault::InUse | StoreFault::System(_, _) | StoreFault::Device(_, _) => {
                 Refusal::Device
             }
             StoreFault::NoFolder
             | StoreFault::NoLog(_, _)
             | StoreFault::LogCount(_)
+            | StoreFault::Strange(_, _)
             | StoreFault::Missing(_)
             | StoreFault::Spoiled(_) => Refusal::LogCount,
             StoreFault::Memory => Refusal::Memory,
@@ -62,13 +68,13 @@ impl StoreFault {
         }
     }
 
-    /// That the device failed at a file.
-    pub(crate) fn device_at(file: FolderFile) -> StoreFault
-        ensures { result ≡ device_fault file }
+    /// Why a disk failed on which this file stands: for want of memory, or its device.
+    pub(crate) fn of_disk<D: Disk>(file: FolderFile, disk: &D) -> StoreFault
+        ensures { IsOfDisk (D.was_refused disk.now) file result }
     {
-        match file {
-            FolderFile::Store(file) => StoreFault::Refused(Some(file), Refusal::Device),
-            FolderFile::Digest(file) => StoreFault::DigestDevice(file),
+        match disk.last_error() {
+            Some(SystemError::OutOfMemory) => StoreFault::Memory,
+            error => StoreFault::Device(file, error),
         }
     }
 
@@ -79,13 +85,14 @@ impl StoreFault {
         match self {
             StoreFault::System(_, _)
             | StoreFault::Memory
-            | StoreFault::DigestDevice(_)
+            | StoreFault::Device(_, _)
             | StoreFault::Refused(_, Refusal::Device | Refusal::Memory)
             | StoreFault::RefusedLog(_, Refusal::Device | Refusal::Memory) => 1,
             StoreFault::InUse
             | StoreFault::NoFolder
             | StoreFault::NoLog(_, _)
             | StoreFault::LogCount(_)
+            | StoreFault::Strange(_, _)
             | StoreFault::Missing(_)
             | StoreFault::Refused(_, _)
             | StoreFault::RefusedLog(_, _)
@@ -124,11 +131,11 @@ impl fmt::Display for LogCounts {
     }
 }
 
-// A file, the log of a worker, or the folder.
+// A file, one of the files of a worker's log, or the folder.
 #[derive(Clone, Copy)]
 enum Place<'a> {
     File(&'a str, FolderFile),
-    Log(&'a str, usize),
+    Log(&'a str, Suspects),
     Folder(&'a str),
 }
 
@@ -143,10 +150,39 @@ impl fmt::Display for Place<'_> {
     fn fmt<W: fmt::Write>(&self, f: &mut fmt::Formatter<W>) -> fmt::Result {
         match *self {
             Place::File(folder, file) => write!(f, "'{folder}/{file}'"),
-            Place::Log(folder, worker) => write!(f, "the log of worker {worker} in '{folder}'"),
+            Place::Log(folder, suspects) => write_suspects(f, folder, suspects),
             Place::Folder(folder) => write!(f, "the folder '{folder}'"),
         }
     }
+}
+
+// The files of a worker's log in which the cause may be; or the log, if none of them is known to be it.
+fn write_suspects<W: fmt::Write>(
+    f: &mut fmt::Formatter<W>,
+    folder: &str,
+    suspects: Suspects,
+) -> fmt::Result {
+    let Suspects {
+        worker,
+        plain,
+        even,
+        odd,
+    } = suspects;
+    let mut before = "";
+    for (is_one, file) in [
+        (plain, StoreFile::Log(worker)),
+        (even, StoreFile::Numbered(worker, Parity::Even)),
+        (odd, StoreFile::Numbered(worker, Parity::Odd)),
+    ] {
+        if is_one {
+            write!(f, "{before}'{folder}/{file}'")?;
+            before = " or ";
+        }
+    }
+    if before.is_empty() {
+        write!(f, "the log of worker {worker} in '{folder}'")?;
+    }
+    Ok(())
 }
 
 // Files that are missing, which a store had.
@@ -207,6 +243,21 @@ impl fmt::Display for FolderFault {
                 "{number}: the logs of '{folder}' aren't all of one store; {counts}: {}",
                 remedy(*counts)
             ),
+            StoreFault::Strange(
+                StrangeLog {
+                    file,
+                    found,
+                    expected,
+                },
+                counts,
+            ) => {
+                let place = Place::of(folder, *file);
+                write!(
+                    f,
+                    "{number}: {place} is {found}, and {expected} was expected there: {}",
+                    remedy(*counts)
+                )
+            }
             StoreFault::Missing(files) => {
                 let missing = MissingFiles(folder, files.as_slice());
                 write!(f, "{number}: {missing}: {ALL_BACK}")
@@ -214,12 +265,15 @@ impl fmt::Display for FolderFault {
             StoreFault::Refused(file, refusal) => {
                 told(f, folder, place_of(folder, *file), *refusal)
             }
-            StoreFault::RefusedLog(worker, refusal) => {
-                told(f, folder, Place::Log(folder, *worker), *refusal)
+            StoreFault::RefusedLog(suspects, refusal) => {
+                told(f, folder, Place::Log(folder, *suspects), *refusal)
             }
-            StoreFault::DigestDevice(file) => {
-                let digest = Place::File(folder, FolderFile::Digest(*file));
-                told(f, folder, digest, number)
+            StoreFault::Device(file, None) => {
+                told(f, folder, Place::File(folder, *file), number)
+            }
+            StoreFault::Device(file, Some(error)) => {
+                let place = Place::File(folder, *file);
+                write!(f, "{number}: {place}: the device failed: {error}")
             }
             StoreFault::Spoiled(file) => {
                 let digest = Place::File(folder, FolderFile::Digest(*file));

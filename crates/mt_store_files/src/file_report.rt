@@ -209,9 +209,11 @@ fn plain_holding<D: Disk>(worker: usize, disk: &mut D) -> Holding
     }
 }
 
-// The first byte of a file, 0 if it has none.
-fn first_byte<D: Disk>(disk: &mut D) -> Result<u8, DeviceFailed>
-    ensures { IsTrue (D.is_honest disk.old) → IfOk result (λ byte. byte ≡ slice_index_or (D.state disk.old).image 0 0) }
+/// The first byte of a file, 0 if it has none.
+pub(crate) fn first_byte<D: Disk>(disk: &mut D) -> Result<u8, DeviceFailed>
+    ensures told { IsTrue (D.is_honest disk.old) → IfOk result (λ byte. byte ≡ slice_index_or (D.state disk.old).image 0 0) }
+    ensures same { IsTrue (D.is_honest disk.old) → D.state disk.new ≡ D.state disk.old }
+    ensures honest { D.is_honest disk.new ≡ D.is_honest disk.old }
 {
     let mut first = [0];
     if disk.len()? != 0 {

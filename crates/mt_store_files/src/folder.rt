@@ -17,7 +17,6 @@ use mt_checkpoint::create_slot;
 use mt_disk::{DeviceFailed, Disk};
 use mt_log_files::WorkerFiles;
 use mt_log_generations::{HeaderFault, Parity, create_spare, read_header};
-use mt_rows::Refusal;
 use mt_slots::{Slot, StoreSlots};
 use std::alloc::{AllocError, Global};
 use std::fs::File;
@@ -115,22 +114,6 @@ impl<S: FolderSystem + Drop> StoreFolder<S> {
             }
         }
         Ok(())
-    }
-
-    /// Whether a numbered file of a worker has a log, or may have one: it can't be looked at, or its gate is open before no
-    /// header.
-    pub fn may_have_numbered<R: Files<File = File>>(
-        &mut self,
-        rt: &R,
-        alloc: Global,
-        worker: usize,
-    ) -> bool
-        ensures made { self.new.made ≡ self.old.made }
-    {
-        match has_numbered(&mut self.system, rt, alloc, worker) {
-            Ok(has) => has,
-            Err(_) => true,
-        }
     }
 
     /// How many logs the folder has for so many workers, of the 64 that it may have, by their plain files. One that
@@ -341,14 +324,14 @@ fn is_log<R: Files<File = File>, S: FolderSystem>(
     ensures fault { IfErr result (IsOfLog worker) }
     ensures looks { OnOk result (Looks (S.calls system.old) (S.calls system.new)) }
 {
-    let name = StoreFile::Numbered(worker, parity);
-    let Some(mut disk) = system.open(rt, alloc, FolderFile::Store(name))? else {
+    let name = FolderFile::Store(StoreFile::Numbered(worker, parity));
+    let Some(mut disk) = system.open(rt, alloc, name)? else {
         return Ok(false);
     };
     match read_header(&mut disk) {
         Ok(None) => Ok(false),
         Ok(Some(_)) | Err(HeaderFault::Bad(_)) => Ok(true),
-        Err(HeaderFault::Device) => Err(StoreFault::Refused(Some(name), Refusal::Device)),
+        Err(HeaderFault::Device) => Err(StoreFault::of_disk(name, &disk)),
     }
 }
 
@@ -408,7 +391,7 @@ fn open_numbered<R: Files<File = File>, S: FolderSystem>(
     let mut disk = open_or_make(system, made, rt, alloc, name)?;
     match spare_if_empty(&mut disk) {
         Ok(()) => Ok(disk),
-        Err(_) => Err(StoreFault::Refused(Some(name), Refusal::Device)),
+        Err(_) => Err(StoreFault::of_disk(FolderFile::Store(name), &disk)),
     }
 }
 
@@ -523,7 +506,7 @@ fn open_slot<R: Files<File = File>, S: FolderSystem>(
     let mut disk = open_or_make(system, made, rt, alloc, name)?;
     match make_if_empty(&mut disk) {
         Ok(()) => Ok(disk),
-        Err(_) => Err(StoreFault::Refused(Some(name), Refusal::Device)),
+        Err(_) => Err(StoreFault::of_disk(FolderFile::Store(name), &disk)),
     }
 }
 

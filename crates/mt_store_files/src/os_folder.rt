@@ -6,7 +6,7 @@ ghost use Rattle.mt_store_files.specs.Faults.{IsOfFile, IsOfSync};
 use crate::fault::StoreFault;
 use crate::names::{FolderFile, file_path, parent_path};
 use crate::system::FolderSystem;
-use mt_disk::{FileDisk, OsFile};
+use mt_disk::{CachedDisk, FileDisk, OsFile, SystemError, SystemFile};
 use std::alloc::{AllocError, Global};
 use std::fs::{self, File, OpenOptions, TryLockError};
 use std::io::{self, ErrorKind};
@@ -45,13 +45,20 @@ fn for_files() -> OpenOptions {
     options
 }
 
-// A file as a disk: as the device has it, and not as another process left it in the memory of the system.
-fn found(alloc: Global, name: FolderFile, file: File) -> Result<FileDisk, StoreFault>
-    ensures fault { IfErr result (IsOfFile name) }
+/// A file as a disk: as the device has it, and not as another process left it in the memory of the system.
+pub(crate) fn disk_on<F: SystemFile + Drop>(
+    alloc: Global,
+    name: FolderFile,
+    file: F,
+) -> Result<CachedDisk<F>, StoreFault>
+    ensures { IfErr result (IsOfFile name) }
 {
-    match FileDisk::found(alloc, OsFile::new(file)) {
+    match CachedDisk::found(alloc, file) {
         Ok(disk) => Ok(disk),
-        Err(_) => Err(StoreFault::device_at(name)),
+        Err((_, file)) => {
+            let error = file.last_error().map(SystemError::Number);
+            Err(StoreFault::Device(name, error))
+        }
     }
 }
 
@@ -122,7 +129,7 @@ impl FolderSystem for OsFolder {
     ) -> Result<Option<FileDisk>, StoreFault> {
         let path = file_path(alloc, self.path.as_str(), file)?;
         match for_files().open(rt, path.as_str()) {
-            Ok(opened) => Ok(Some(found(alloc, file, opened)?)),
+            Ok(opened) => Ok(Some(disk_on(alloc, file, OsFile::new(opened))?)),
             Err(error) if error.kind() == ErrorKind::NotFound => Ok(None),
             Err(error) => Err(StoreFault::System(Some(file), error)),
         }
@@ -136,7 +143,7 @@ impl FolderSystem for OsFolder {
     ) -> Result<FileDisk, StoreFault> {
         let path = file_path(alloc, self.path.as_str(), file)?;
         match for_files().create_new(true).open(rt, path.as_str()) {
-            Ok(made) => match found(alloc, file, made) {
+            Ok(made) => match disk_on(alloc, file, OsFile::new(made)) {
                 Ok(disk) => Ok(disk),
                 Err(fault) => {
                     let _ = fs::remove_file(rt, path.as_str());

@@ -1,11 +1,10 @@
 //! A folder of the operating system that is only read. What a start makes of its files stays in memory.
 
-ghost use Rattle.std.specs.Prelude.{◌≡◌, None, IfOk, IfErr};
-ghost use Rattle.mt_store_files.specs.Faults.{IsOfFile};
+ghost use Rattle.std.specs.Prelude.{◌≡◌, None, IfOk};
 
 use crate::fault::StoreFault;
 use crate::names::{FolderFile, file_path};
-use crate::os_folder::OsFolder;
+use crate::os_folder::{OsFolder, disk_on};
 use crate::read_file::ReadFile;
 use crate::system::FolderSystem;
 use mt_disk::CachedDisk;
@@ -30,20 +29,6 @@ impl ReadFolder {
             folder: OsFolder::at(alloc, path)?,
             made: Vec::new(alloc),
         })
-    }
-}
-
-// A file as a disk.
-fn disk_on(
-    alloc: Global,
-    name: FolderFile,
-    file: ReadFile,
-) -> Result<CachedDisk<ReadFile>, StoreFault>
-    ensures { IfErr result (IsOfFile name) }
-{
-    match CachedDisk::found(alloc, file) {
-        Ok(disk) => Ok(disk),
-        Err(_) => Err(StoreFault::device_at(name)),
     }
 }
 

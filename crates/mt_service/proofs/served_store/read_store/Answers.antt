@@ -12,7 +12,7 @@ returns-in-Err-clause-err g c =
     let value = ap length c.deref_mut.ensures.value in
     let same : old.len ≡ length new = omega (arith, c.begin.ensures, value, old.ok.0) in
     let len : length (take old.len (new ++ behind)) ≡ c.args.workers = ap length (whole old.len new behind same) ∙ omega (arith, same, c.in_ok-files.ensures.all) in
-    inr (inr (inr (inr (c.in-Err.refusal, (take old.len (new ++ behind), c.in_ok-slots.slots, len, c.in-Err.ensures.err), c.not_recovered.ensures))))
+    inr (inr (inr (inr (c.in-Err.refusal, (take old.len (new ++ behind), c.in_ok-slots.slots, len, c.in-Err.ensures.err), record { before = _; after = _; tells = c.not_recovered.ensures }))))
 
 pub returns-in-Ok-clause-ok : goal.returns-in-Ok-clause-ok
 returns-in-Ok-clause-ok g c =
