@@ -106,14 +106,12 @@ fn gather_all<L: Ledger, J: Naming, R: Wait + Clock + Abort>(
         clerks.push(clerk).expect(rt, "memory");
     }
     let held = passes.pop().expect(rt, "a pass");
-    let (mut passes, mut clerks) = gather(rt, book, passes, clerks)
-        .err()
-        .expect(rt, "3 passes");
+    let back = gather(rt, book, passes, clerks).err();
+    let (mut passes, mut clerks) = back.expect(rt, "3 passes");
     passes.push(held).expect(rt, "memory");
     let held = clerks.pop().expect(rt, "a clerk");
-    let (passes, mut clerks) = gather(rt, book, passes, clerks)
-        .err()
-        .expect(rt, "3 clerks");
+    let back = gather(rt, book, passes, clerks).err();
+    let (passes, mut clerks) = back.expect(rt, "3 clerks");
     clerks.push(held).expect(rt, "memory");
     assert_eq!(rt; (passes.len(), clerks.len()), (4, 4));
     assert!(rt; matches!(gather(rt, book, passes, clerks), Ok(1000)));
@@ -160,11 +158,7 @@ fn play<L: Ledger + Send + Sync, J: Naming + Send + Sync, R: Threads + Wait + Cl
     requires unasked { IsUnasked state }
 {
     if let Case::ToldAlone = case {
-        let Names {
-            answers,
-            history: _,
-            states: _,
-        } = names;
+        let Names { answers, .. } = names;
         return told::tell_alone(rt, alloc, Book::<L>::new(answers, state));
     }
     let book = BookLock::new(Kept::<L, J>::new(alloc, names, state));

@@ -107,13 +107,13 @@ fn tell<L: Ledger, R: Wait + Clock + Abort, D: Desk<L>>(
 pub(crate) fn tell_alone<L: Ledger, R: Wait + Clock + Abort>(rt: &R, alloc: Global, book: Book<L>) {
     let mut book = book;
     let mut passes = Vec::new(alloc);
-    for worker in WORKERS {
+    for &worker in &WORKERS {
         let pass = book.open_pass(worker).expect(rt, "a pass");
         passes.push(pass).expect(rt, "memory");
     }
-    for row in ROWS {
+    for row in &ROWS {
         let pass = passes.get_mut(row.0).expect(rt, "a pass");
-        tell(rt, alloc, &mut book, pass, row);
+        tell(rt, alloc, &mut book, pass, *row);
     }
 }
 
@@ -125,9 +125,9 @@ pub(crate) fn tell_locked<L: Ledger, J: Naming, R: Wait + Clock + Abort>(
 ) {
     let mut callers = open_all(rt, alloc, book, &WORKERS);
     let mut other = open_clerk(rt, book).expect(rt, "a clerk");
-    for row in ROWS {
+    for row in &ROWS {
         let (pass, clerk) = callers.get_mut(row.0).expect(rt, "a pass");
-        tell(rt, alloc, clerk, pass, row);
+        tell(rt, alloc, clerk, pass, *row);
         clerk.learn(&other);
         other.learn(clerk);
     }

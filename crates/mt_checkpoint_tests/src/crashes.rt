@@ -44,9 +44,7 @@ fn torn_left(alloc: Global, disk: &MemDisk, second: bool) -> Result<u64, AllocEr
         let (half, _) = text.split_at(20);
         for byte in [0, 1, 7] {
             for behind in [b"".as_slice(), half, text, b"MTCKP\x02 and more"] {
-                let mut image = Vec::new(alloc);
-                image.push(byte)?;
-                image.extend_from_slice(behind)?;
+                let image = [[byte].as_slice(), behind].as_slice().concat(alloc)?;
                 if disk.may_leave(&image) {
                     if !may_be(read_as(alloc, &image)?, second) {
                         return Ok(0);

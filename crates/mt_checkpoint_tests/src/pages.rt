@@ -86,16 +86,11 @@ fn a_walk_shows_each_pair_once(rt: HostRuntime) -> Result<(), Fail> {
             maps.push((*tenant, map_of(alloc, *count)?))?;
         }
         maps.reverse();
-        let walked = walked(alloc, &mut maps)?;
-        let Some((shown, made)) = walked else {
-            return Err(Fail::from(AllocError));
-        };
+        let (shown, made) = walked(alloc, &mut maps)?.expect(&rt, "an end");
         assert!(rt; made == scans && shown.len() == owners.len(), "{counts:?}");
         for (pair, (tenant, number)) in shown.iter().zip(owners.iter()) {
-            assert!(rt;
-                pair.tenant == *tenant && pair.key.as_bytes() == &number.to_be_bytes()[..],
-                "{counts:?}"
-            );
+            let is_key = pair.key.as_bytes() == &number.to_be_bytes()[..];
+            assert!(rt; is_key && pair.tenant == *tenant, "{counts:?}");
         }
     }
     Ok(())

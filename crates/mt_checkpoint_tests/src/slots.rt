@@ -134,10 +134,8 @@ pub fn slot_with(
     stop: Option<u64>,
 ) -> Result<Option<MemDisk>, AllocError> {
     let mut disk = MemDisk::new(alloc, fails.to_vec(alloc)?, stop);
-    match create_slot(&mut disk) {
-        Ok(()) => Ok(Some(disk)),
-        Err(_) => Ok(None),
-    }
+    let is_made = create_slot(&mut disk).is_ok();
+    Ok(Some(disk).filter(|_| is_made))
 }
 
 /// What a slot is read as after such a checkpoint was written in it, or was refused.

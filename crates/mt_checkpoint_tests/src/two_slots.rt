@@ -82,25 +82,24 @@ fn both_written(alloc: Global) -> Result<StoreSlots<MemDisk>, AllocError> {
     Ok(slots)
 }
 
+const OLD: Told = Told::Walk(6, 9, 1);
+
+const NEW: Told = Told::Walk(12, 15, 1);
+
+// The steps of a checkpoint, the slot in which it is written, and what is told then.
+const WRITTEN: [((u64, u64), Slot, [Told; 2]); 3] = [
+    ((6, 9), Slot::First, [OLD, Told::None]),
+    ((12, 15), Slot::Second, [OLD, NEW]),
+    ((20, 22), Slot::First, [Told::Walk(20, 22, 1), NEW]),
+];
+
 #[test]
 fn each_checkpoint_goes_to_the_other_slot(rt: HostRuntime) -> Result<(), Fail> {
     let alloc = rt.alloc();
     let (mut slots, fault) = slots_with(alloc, Slot::First, 0)?;
     assert!(rt; fault.is_none() && slots.newest().is_none() && slots.owed() == 0);
     assert!(rt; told_both(alloc, &mut slots) == Ok(Some([Told::None; 2])));
-    for (steps, slot, told) in [
-        ((6, 9), Slot::First, [Told::Walk(6, 9, 1), Told::None]),
-        (
-            (12, 15),
-            Slot::Second,
-            [Told::Walk(6, 9, 1), Told::Walk(12, 15, 1)],
-        ),
-        (
-            (20, 22),
-            Slot::First,
-            [Told::Walk(20, 22, 1), Told::Walk(12, 15, 1)],
-        ),
-    ] {
+    for &(steps, slot, told) in &WRITTEN {
         let (now, whole) = write_in(alloc, slots, steps, slot)?;
         slots = now;
         assert!(rt; whole && slots.newest() == Some(slot));
@@ -122,9 +121,8 @@ fn a_failing_call_leaves_the_newest(rt: HostRuntime) -> Result<(), Fail> {
         assert!(rt; slots.newest() == Some(Slot::First), "{call} failing");
         assert!(rt; slots.owed() == 9, "{call} failing");
         let told = told_both(alloc, &mut slots);
-        let old = Told::Walk(6, 9, 1);
-        let either = [Told::None, Told::Walk(12, 15, 1)].map(|second| Ok(Some([old, second])));
-        assert!(rt; either.contains(&told), "{call} failing");
+        let is_either = told == Ok(Some([OLD, Told::None])) || told == Ok(Some([OLD, NEW]));
+        assert!(rt; is_either, "{call} failing");
         let (slots, again) = write_in(alloc, slots, (16, 19), Slot::Second)?;
         let is_newest = slots.newest() == Some(Slot::Second);
         assert!(rt; again && is_newest && slots.owed() == 19, "{call} failing");
@@ -147,20 +145,17 @@ fn begin_in_vain(slots: StoreSlots<MemDisk>) -> (StoreSlots<MemDisk>, Option<Slo
 #[test]
 fn what_is_kept_is_not_written_over(rt: HostRuntime) -> Result<(), Fail> {
     let alloc = rt.alloc();
-    let (old, new) = (Told::Walk(6, 9, 1), Told::Walk(12, 15, 1));
-    for (used, slot, told) in [
-        (None, Slot::First, [Told::None, new]),
-        (Some(Slot::First), Slot::Second, [old, Told::None]),
-        (Some(Slot::Second), Slot::First, [Told::None, new]),
+    for &(used, slot, told) in &[
+        (None, Slot::First, [Told::None, NEW]),
+        (Some(Slot::First), Slot::Second, [OLD, Told::None]),
+        (Some(Slot::Second), Slot::First, [Told::None, NEW]),
     ] {
         let (first, second) = both_written(alloc)?.into_disks();
         let mut slots = StoreSlots::found(first, second);
         slots.keep(used);
         let (mut slots, begun) = begin_in_vain(slots);
-        assert!(rt;
-            (begun, slots.next_slot()) == (Some(slot), slot),
-            "{used:?}"
-        );
+        let next = slots.next_slot();
+        assert!(rt; begun == Some(slot) && next == slot, "{used:?}");
         assert!(rt; slots.newest() == used && slots.owed() == 0, "{used:?}");
         assert!(rt; told_both(alloc, &mut slots) == Ok(Some(told)), "{used:?}");
     }

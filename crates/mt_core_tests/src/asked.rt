@@ -45,10 +45,8 @@ pub(crate) fn end(rt: &impl Abort, state: &mut State, ticket: Ticket) -> Answer 
 
 /// The answer of an operation that is finished.
 pub(crate) fn taken(rt: &impl Abort, state: &mut State, ticket: Ticket) -> Answer {
-    state
-        .take(ticket)
-        .ok()
-        .expect(rt, "the operation is finished")
+    let answer = state.take(ticket).ok();
+    answer.expect(rt, "the operation is finished")
 }
 
 /// A put of column 0.

@@ -58,10 +58,8 @@ fn recovered(
     ensures quotas { KeepsQuotas (quota_in tenants.now) (pairs_of result.items) }
 {
     let (mut log, front) = one_log(rt, alloc, pairs);
-    let recovered = recover(alloc, &mut log, &mut [front], &[None, None], tenants).expect(
-        rt,
-        "within quotas",
-    );
+    let recovered = recover(alloc, &mut log, &mut [front], &[None, None], tenants);
+    let recovered = recovered.expect(rt, "within quotas");
     assert!(rt; are_within(&recovered.pairs));
     assert!(rt; recovered.resume <= steps);
     recovered.pairs
@@ -105,12 +103,10 @@ fn one_log(rt: &impl Abort, alloc: Global, pairs: Vec<TenantPair>) -> (OneLog, F
         let batch = put_after(rt, alloc, log.mark(), pair);
         log = log.append(alloc, batch).ok().expect(rt, "a disk");
     }
-    let (mut log, front) = LogFile::open(alloc, log.into_disk())
-        .ok()
-        .expect(rt, "a log");
-    let reader = BatchReader::begin(alloc, &mut log, FileKind::Plain)
-        .ok()
-        .expect(rt, "a log");
+    let opened = LogFile::open(alloc, log.into_disk()).ok();
+    let (mut log, front) = opened.expect(rt, "a log");
+    let reader = BatchReader::begin(alloc, &mut log, FileKind::Plain).ok();
+    let reader = reader.expect(rt, "a log");
     (OneLog { log, reader }, front)
 }
 

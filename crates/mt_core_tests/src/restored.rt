@@ -45,10 +45,8 @@ fn put_more(rt: &impl Abort, alloc: Global, state: &mut State) {
 fn restores_all_pairs(host: HostRuntime) {
     let (rt, alloc) = (&host, host.alloc());
     let mut state = first_pairs(rt, alloc);
-    assert_eq!(rt;
-        (state.steps(), state.logs(), state.answers()),
-        (STEPS, 2, 0)
-    );
+    let numbers = (state.steps(), state.logs(), state.answers());
+    assert_eq!(rt; numbers, (STEPS, 2, 0));
     let lines = state.shape(alloc).expect(rt, "memory");
     assert!(rt; lines.len() > 40);
     let batch = drained(rt, &mut state, 1);
@@ -65,17 +63,10 @@ fn a_put_meets_a_stamp_that_was_restored(host: HostRuntime) {
     assert!(rt; matches!(put_pair(rt, alloc, &mut state, 7, Some(8)), Reply::Replaced));
     let stamp = stamp_of(rt, alloc, &mut state, 7);
     assert!(rt; stamp > STEPS);
-    let told = match put_pair(rt, alloc, &mut state, 7, Some(8)) {
-        Reply::Stale(told) => told,
-        _ => 0,
-    };
-    assert_eq!(rt; told, stamp);
-    assert!(rt;
-        matches!(
-            put_pair(rt, alloc, &mut state, PAIRS + 2, Some(0)),
-            Reply::New
-        )
-    );
+    let told = put_pair(rt, alloc, &mut state, 7, Some(8));
+    assert!(rt; matches!(told, Reply::Stale(told) if told == stamp));
+    let told = put_pair(rt, alloc, &mut state, PAIRS + 2, Some(0));
+    assert!(rt; matches!(told, Reply::New));
 }
 
 #[test]
@@ -85,9 +76,8 @@ fn goes_on_from_what_was_restored(host: HostRuntime) {
     put_more(rt, alloc, &mut state);
     expect_pairs(rt, alloc, &mut state, 0, PAIRS);
     let batch = drained(rt, &mut state, 0);
-    assert!(rt;
-        batch.from == STEPS && batch.to == state.steps() && batch.records.as_slice().len() == 21
-    );
+    assert_eq!(rt; (batch.from, batch.to), (STEPS, state.steps()));
+    assert_eq!(rt; batch.records.as_slice().len(), 21);
 }
 
 #[test]
@@ -116,9 +106,8 @@ fn restores_what_its_log_was_given(host: HostRuntime) {
 fn restores_near_the_last_number(host: HostRuntime) {
     let (rt, alloc) = (&host, host.alloc());
     let mut state = restored(rt, alloc, (1 << 59) - 1, 0, Vec::new(alloc));
-    let ticket = state
-        .begin(0, 7, get(rt, alloc, 1))
-        .expect(rt, "the get is taken");
+    let ticket = state.begin(0, 7, get(rt, alloc, 1));
+    let ticket = ticket.expect(rt, "the get is taken");
     assert!(rt; state.step(&ticket) == Move::Moved);
     assert!(rt; state.step(&ticket) == Move::Spent);
     assert!(rt; state.take(ticket).is_err());

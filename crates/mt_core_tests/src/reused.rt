@@ -59,9 +59,8 @@ fn no_place_is_used_again_while_an_earlier_operation_is_open(rt: HostRuntime) {
     let alloc = rt.alloc();
     for row in &ROWS {
         let mut state = new_store(&rt, alloc, 0, 100);
-        let held = state
-            .begin(0, 7, get(&rt, alloc, row.put[0], &[]))
-            .expect(&rt, "the get is taken");
+        let held = state.begin(0, 7, get(&rt, alloc, row.put[0], &[]));
+        let held = held.expect(&rt, "the get is taken");
         assert!(rt; state.step(&held) == Move::Moved);
         for _ in 0..1_000 {
             cycle(&rt, alloc, &mut state, row);

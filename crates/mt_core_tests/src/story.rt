@@ -3,7 +3,7 @@
 use crate::asked::{drained, end, get, new_store, put, run, taken};
 use mt_core::{State, prepare};
 use mt_operation::Phase;
-use mt_rows::{Command, Refusal, Write};
+use mt_rows::{Refusal, Write};
 use mt_runs::Answer;
 use mt_state::Move;
 use std::alloc::Global;
@@ -44,15 +44,11 @@ fn a_put_and_a_get_of_it(rt: HostRuntime) {
     assert_eq!(rt; numbers, (10, 2, 0));
 }
 
-// The batch that a worker's log is given: the step over which it goes, its stamps and keys, and whether each
-// tells of a row that was there.
-fn expect_batch(
-    rt: &impl Abort,
-    state: &mut State,
-    worker: u8,
-    from: u64,
-    records: &[(u64, &str, bool)],
-) {
+// A put's stamp, its key, and whether it tells of a row that was there.
+type Put = (u64, &'static str, bool);
+
+// The batch that a worker's log is given: the step over which it goes, and its puts.
+fn expect_batch(rt: &impl Abort, state: &mut State, worker: u8, from: u64, records: &[Put]) {
     let to = state.steps();
     let batch = drained(rt, state, worker);
     assert_eq!(rt; (batch.from, batch.to), (from, to));
@@ -102,10 +98,8 @@ fn a_full_batch_ends_at_its_last_change(rt: HostRuntime) {
     let last = records.last().map(|record| record.stamp);
     assert_eq!(rt; (full.from, records.len(), last), (0, 4_096, Some(full.to)));
     let rest = drained(&rt, &mut state, 0);
-    assert_eq!(rt;
-        (rest.from, rest.records.as_slice().len(), rest.to),
-        (full.to, 4, state.steps())
-    );
+    assert_eq!(rt; (rest.from, rest.to), (full.to, state.steps()));
+    assert_eq!(rt; rest.records.as_slice().len(), 4);
 }
 
 pub(crate) const SIXTEEN_KEYS: [&str; 16] = [
@@ -136,41 +130,22 @@ fn operations_are_begun_in_places_that_were_made(rt: HostRuntime) {
     assert_eq!(rt; state.answers(), 64);
 }
 
-// A get of these columns is refused for this cause.
-fn expect_refusal(
-    rt: &impl Abort,
-    state: &mut State,
-    tenant: u32,
-    command: Command,
-    cause: Refusal,
-) {
-    match state.begin(0, tenant, command) {
-        Ok(_) => panic!(rt; "the get is begun"),
-        Err(refusal) => assert_eq!(rt; refusal, cause),
-    }
-}
+// A tenant, columns of a get, and why it is refused.
+const REFUSED: [(u32, &[u8], Refusal); 3] = [
+    (8, &[16], Refusal::NoTenant(8)),
+    (7, &[16], Refusal::Column),
+    (7, &[1, 0], Refusal::Column),
+];
 
 #[test]
 fn the_first_cause_is_told_and_a_begin_is_cancelled(rt: HostRuntime) {
     let alloc = rt.alloc();
     let mut state = new_store(&rt, alloc, 0, 2);
-    let rows: [(u32, &str, &[u8], Refusal); 3] = [
-        (8, "k", &[16], Refusal::NoTenant(8)),
-        (7, "k", &[16], Refusal::Column),
-        (7, "k", &[1, 0], Refusal::Column),
-    ];
-    for (tenant, key, columns, cause) in rows {
-        expect_refusal(
-            &rt,
-            &mut state,
-            tenant,
-            get(&rt, alloc, key, columns),
-            cause,
-        );
+    for &(tenant, columns, cause) in &REFUSED {
+        let refused = state.begin(0, tenant, get(&rt, alloc, "k", columns)).err();
+        assert_eq!(rt; refused, Some(cause));
     }
-    let ticket = state
-        .begin(0, 7, get(&rt, alloc, "k", &[0]))
-        .expect(&rt, "the get is taken");
-    let cancelled = state.cancel(ticket).is_ok();
+    let ticket = state.begin(0, 7, get(&rt, alloc, "k", &[0]));
+    let cancelled = state.cancel(ticket.expect(&rt, "the get is taken")).is_ok();
     assert!(rt; cancelled);
 }

@@ -81,17 +81,10 @@ fn a_settle_ends_behind_two_calls_that_failed(rt: HostRuntime) -> Result<(), Fai
             // After the last of them the batch counts, and isn't appended again.
             let last = if first == 7 { 15 } else { first + 12 };
             for second in first + 1..last + 1 {
-                let fate = Fate {
-                    disk: DiskOf::Plain(worker),
-                    first,
-                    second,
-                    stop: 0,
-                };
+                let fate = Fate(DiskOf::Plain(worker), [first, second], 0);
                 let noted = again(&rt, alloc, worker, fate);
-                assert!(rt;
-                    noted.is_some_and(|noted| settles_again(&noted)),
-                    "{fate:?}"
-                );
+                let is_settled = noted.is_some_and(|noted| settles_again(&noted));
+                assert!(rt; is_settled, "{fate:?}");
             }
         }
     }
@@ -113,7 +106,7 @@ fn a_settle_opens_a_log_again(rt: HostRuntime) -> Result<(), Fail> {
     let alloc = rt.alloc();
     for worker in [0, 1] {
         for first in 4..8 {
-            let fate = Fate::fails_at(DiskOf::Plain(worker), first);
+            let fate = Fate(DiskOf::Plain(worker), [first, 0], 0);
             let noted = unopened(&rt, alloc, worker, fate);
             let is_opened = noted.is_some_and(|noted| tells(&noted, 1, "device")
                 && settles_as(&noted, 5, 2));

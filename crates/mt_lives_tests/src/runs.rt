@@ -39,46 +39,22 @@ const DISKS: [DiskOf; 8] = [
 
 /// Which two calls of which disk fail, and which one its disk stops at, 0 where none does.
 #[derive(Clone, Copy, Debug)]
-pub(crate) struct Fate {
-    pub disk: DiskOf,
-    pub first: u64,
-    pub second: u64,
-    pub stop: u64,
-}
+pub(crate) struct Fate(pub DiskOf, pub [u64; 2], pub u64);
 
 /// Nothing fails.
-pub(crate) const AMPLE: Fate = Fate {
-    disk: DiskOf::Plain(0),
-    first: 0,
-    second: 0,
-    stop: 0,
-};
+pub(crate) const AMPLE: Fate = Fate(DiskOf::Plain(0), [0; 2], 0);
 
 impl Fate {
-    /// This call of a disk fails.
-    pub(crate) fn fails_at(disk: DiskOf, call: u64) -> Fate {
-        Fate {
-            disk,
-            first: call,
-            second: 0,
-            stop: 0,
-        }
-    }
-
     /// The disk stops at the first call that failed.
     pub(crate) fn stops(self) -> Fate {
-        Fate {
-            disk: self.disk,
-            first: 0,
-            second: 0,
-            stop: self.first,
-        }
+        let Fate(disk, [first, _], _) = self;
+        Fate(disk, [0; 2], first)
     }
 
     /// Whether a file or a slot is not made: its first three calls make a file, and its first two a slot.
     pub(crate) fn makes_none(self) -> bool {
-        let call = self.first.max(self.stop);
-        0 < call && call <= 3
+        let Fate(_, [first, _], stop) = self;
+        (1..=3).contains(&first.max(stop))
     }
 }
 
@@ -206,12 +182,12 @@ fn files_of(rt: &impl Abort, alloc: Global, fate: Fate, worker: u8) -> WorkerFil
 }
 
 fn disk(rt: &impl Abort, alloc: Global, fate: Fate, place: DiskOf) -> MemDisk {
-    if place == fate.disk {
-        let fails = [fate.first, fate.second].to_vec(alloc).expect(rt, "memory");
-        MemDisk::new(alloc, fails, Some(fate.stop).filter(|call| *call > 0))
-    } else {
-        MemDisk::new(alloc, Vec::new(alloc), None)
+    let Fate(disk, fails, stop) = fate;
+    if place != disk {
+        return MemDisk::new(alloc, Vec::new(alloc), None);
     }
+    let fails = fails.to_vec(alloc).expect(rt, "memory");
+    MemDisk::new(alloc, fails, Some(stop).filter(|call| *call > 0))
 }
 
 // What a read of each disk gives.
@@ -262,7 +238,7 @@ pub(crate) fn fates_of(rt: &impl Abort, alloc: Global, story: &str, count: usize
     let mut fates = Vec::new(alloc);
     for (disk, calls) in DISKS.iter().zip(calls_in(rt, alloc, story, count)) {
         for call in 1..=calls {
-            assert!(rt; fates.push(Fate::fails_at(*disk, call)).is_ok());
+            assert!(rt; fates.push(Fate(*disk, [call, 0], 0)).is_ok());
         }
     }
     fates

@@ -51,7 +51,7 @@ fn ended(noted: &[Noted]) -> usize {
 fn turns_on(rt: &impl Abort, fate: Fate, ran: &Ran) -> bool {
     comes_back(&ran.noted)
         && standing(rt, &ran.store).is_some_and(|generation| generation > ran.before)
-        && (fate.stop > 0 || ended(&ran.noted) >= 2)
+        && (fate.2 > 0 || ended(&ran.noted) >= 2)
 }
 
 fn holds(rt: &impl Abort, alloc: Global, fate: Fate) -> bool {
@@ -94,7 +94,7 @@ fn left_by(rt: &impl Abort, alloc: Global, count: usize) -> Option<u64> {
 #[test]
 fn one_generation_stands_after_a_turn(rt: HostRuntime) -> Result<(), Fail> {
     let alloc = rt.alloc();
-    for (count, generation) in LEAVES {
+    for &(count, generation) in &LEAVES {
         let left = left_by(&rt, alloc, count);
         assert!(rt; left == Some(generation), "{count}: {left:?}");
     }

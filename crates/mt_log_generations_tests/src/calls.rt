@@ -111,7 +111,7 @@ fn answers(alloc: Global, file: &mut OsFile<FakeCalls>, asked: &str) -> Result<S
 #[test]
 fn calls_follow_on_those_that_failed(rt: HostRuntime) -> Result<(), Fail> {
     let alloc = rt.alloc();
-    for (asked, fails, made, told) in ROWS {
+    for &(asked, fails, made, told) in &ROWS {
         let mut file = OsFile::new(FakeCalls {
             calls: String::new(alloc),
             count: 0,

@@ -102,9 +102,7 @@ fn left(alloc: Global, disk: &MemDisk, stop: u64) -> Result<u64, AllocError> {
         let (half, _) = text.split_at(12);
         for byte in [0, 1, 7] {
             for behind in [b"".as_slice(), half, text] {
-                let mut image = Vec::new(alloc);
-                image.push(byte)?;
-                image.extend_from_slice(behind)?;
+                let image = [[byte].as_slice(), behind].as_slice().concat(alloc)?;
                 if disk.may_leave(&image) {
                     if !may_be(read_as(alloc, &image)?, stop) {
                         return Ok(0);
@@ -147,11 +145,8 @@ fn a_log_is_begun_over_a_closed_gate_alone(rt: HostRuntime) -> Result<(), Fail> 
     let alloc = rt.alloc();
     for image in [b"".as_slice(), b"\x01", b"\x07", b"MTLOG", FIRST.as_slice()] {
         let mut disk = MemDisk::with_image(alloc, image.to_vec(alloc)?, Vec::new(alloc), None)?;
-        let begun = begin_generation(&mut disk, 0, 1, 3, 20);
-        assert!(rt;
-            begun == Err(BeginFault::NotShut) && disk.image() == image,
-            "{image:?}"
-        );
+        let is_refused = begin_generation(&mut disk, 0, 1, 3, 20) == Err(BeginFault::NotShut);
+        assert!(rt; is_refused && disk.image() == image, "{image:?}");
     }
     Ok(())
 }

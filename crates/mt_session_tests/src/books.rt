@@ -4,7 +4,7 @@ ghost use Rattle.std.specs.Prelude.{◌≡◌, [], IfOk};
 ghost use Rattle.mt_alone.specs.Runs.{IsIdle};
 
 use crate::sessions::two_tenants;
-use crate::ways::TestServer;
+use crate::ways::{End, TestServer};
 use log::Log;
 use mt_alone::{Alone, serve_alone};
 use mt_book::{Baton, Book, Runner};
@@ -12,7 +12,7 @@ use mt_core::{MAX_STEPS, State};
 use mt_disk::MemDisk;
 use mt_options::TenantQuota;
 use mt_service::{DeskCaller, Turns};
-use mt_session::{Ended, ServeFault, serve};
+use mt_session::{ServeFault, serve};
 use mt_stored::{Checks, Keeper, Store};
 use mt_streams::{Sink, Source};
 use std::alloc::{AllocError, Global};
@@ -50,12 +50,7 @@ pub struct Restored {
 }
 
 impl TestServer for Restored {
-    fn serve_new<R: Source, W: Sink>(
-        &self,
-        alloc: Global,
-        reader: &mut R,
-        writer: &mut W,
-    ) -> Result<Ended, ServeFault> {
+    fn serve_new<R: Source, W: Sink>(&self, alloc: Global, reader: &mut R, writer: &mut W) -> End {
         match state_after(alloc, self.steps) {
             Ok(state) => serve_alone(alloc, reader, writer, &mut Alone::new(state)),
             Err(_) => Err(ServeFault::Memory),
@@ -71,12 +66,7 @@ pub struct Booked<'a, T: Wait + Clock + Log> {
 }
 
 impl<T: Wait + Clock + Log> TestServer for Booked<'_, T> {
-    fn serve_new<R: Source, W: Sink>(
-        &self,
-        alloc: Global,
-        reader: &mut R,
-        writer: &mut W,
-    ) -> Result<Ended, ServeFault> {
+    fn serve_new<R: Source, W: Sink>(&self, alloc: Global, reader: &mut R, writer: &mut W) -> End {
         let blank = Blank::new(65_536);
         match state_after(alloc, self.steps) {
             Ok(state) => serve_booked::<Brand, T, R, W>(
@@ -95,7 +85,7 @@ fn serve_booked<L: Ledger, T: Wait + Clock + Log, R: Source, W: Sink>(
     state: State,
     reader: &mut R,
     writer: &mut W,
-) -> Result<Ended, ServeFault>
+) -> End
     requires name { blank.name ≡ L.name }
     requires parts { (blank.parts ≡ L.parts) × (L.parts ≡ 65536) }
     requires untaken { state.answers ≡ 0 }

@@ -47,14 +47,8 @@ fn expect_frame(rt: &impl Abort, alloc: Global, asks: bool, hex: &str, text: &st
     }
     expect_front(rt, alloc, asks, &longer, text);
     let again = again(alloc, asks, &longer).expect(rt, "memory");
-    assert!(rt;
-        again.as_slice()
-            == if text == "Bad" {
-                b"".as_slice()
-            } else {
-                &longer
-            }
-    );
+    let written: &[u8] = if text == "Bad" { b"" } else { &longer };
+    assert!(rt; again.as_slice() == written);
     longer.push(0xff).expect(rt, "memory");
     expect_front(rt, alloc, asks, &longer, text);
 }
@@ -214,13 +208,9 @@ fn a_request_without_a_spelling_is_not_written(rt: HostRuntime) {
         (255, 32_765, 32_761, (4 + 259) + (4 + 32_768) + (4 + 32_768)),
     ] {
         let mut out = Vec::from_slice(alloc, b"before").expect(&rt, "memory");
-        for command in [
-            get_of(alloc, columns),
-            remove_of(alloc, key),
-            put_of(alloc, column),
-        ] {
-            assert!(rt; is_written(command, len > 0, &mut out));
-        }
+        assert!(rt; is_written(get_of(alloc, columns), len > 0, &mut out));
+        assert!(rt; is_written(remove_of(alloc, key), len > 0, &mut out));
+        assert!(rt; is_written(put_of(alloc, column), len > 0, &mut out));
         assert!(rt; out.starts_with(b"before") && out.len() == 6 + len);
     }
 }

@@ -19,12 +19,8 @@ pub fn many(alloc: Global, unit: &str, times: u32) -> Option<Vec<u8>> {
     let mut bytes = Vec::new(alloc);
     for number in 0..times {
         for byte in &unit {
-            let byte = if *byte == 0xee {
-                (number % 256) as u8
-            } else {
-                *byte
-            };
-            bytes.push(byte).ok()?;
+            let number = (number % 256) as u8;
+            bytes.push(if *byte == 0xee { number } else { *byte }).ok()?;
         }
     }
     Some(bytes)

@@ -9,13 +9,13 @@ use crate::framing::framed;
 use crate::hexadecimal::{bytes_of, many};
 use crate::pieces::{ALL, streams};
 use crate::rows::{COMMAND_STAMPS, LAST_ROWS, ROWS, STEP_STAMPS, row_of};
-use crate::ways::{TestServer, Way, name_of, session, wrong_row};
+use crate::ways::{End, TestServer, Way, name_of, session, wrong_row};
 use bytes::BytesMut;
 use log::Log;
 use mt_alone::{Alone, serve_alone, serve_tenants};
 use mt_rows::{PlainMap, Tenants};
 use mt_session::{
-    Ended, PlainCaller, PlainTenant, ServeFault, SessionBuffers, Stop, answer, serve, serve_with,
+    PlainCaller, PlainTenant, ServeFault, SessionBuffers, Stop, answer, serve, serve_with,
 };
 use mt_streams::{Sink, Source};
 use mt_wire::{ReplyFront, decode_reply};
@@ -42,12 +42,7 @@ fn plain_tenants(alloc: Global) -> Result<PlainCaller, AllocError> {
 struct Plain;
 
 impl TestServer for Plain {
-    fn serve_new<R: Source, W: Sink>(
-        &self,
-        alloc: Global,
-        reader: &mut R,
-        writer: &mut W,
-    ) -> Result<Ended, ServeFault> {
+    fn serve_new<R: Source, W: Sink>(&self, alloc: Global, reader: &mut R, writer: &mut W) -> End {
         match plain_tenants(alloc) {
             Ok(mut caller) => serve(alloc, reader, writer, &mut caller),
             Err(_) => Err(ServeFault::Memory),
@@ -69,12 +64,7 @@ pub(crate) fn two_tenants(alloc: Global) -> Tenants
 struct Stated;
 
 impl TestServer for Stated {
-    fn serve_new<R: Source, W: Sink>(
-        &self,
-        alloc: Global,
-        reader: &mut R,
-        writer: &mut W,
-    ) -> Result<Ended, ServeFault> {
+    fn serve_new<R: Source, W: Sink>(&self, alloc: Global, reader: &mut R, writer: &mut W) -> End {
         match serve_tenants(alloc, reader, writer, two_tenants(alloc)) {
             Ok((_, ended)) => ended,
             Err(_) => Err(ServeFault::Memory),
@@ -86,10 +76,8 @@ impl TestServer for Stated {
 fn expect_rows<T: Wait + Clock + Log + Abort>(rt: &T, alloc: Global, way: Way) {
     assert_eq!(rt; wrong_row(&Plain, alloc, &ROWS, way), None);
     assert_eq!(rt; wrong_row(&Stated, alloc, &ROWS, way), None);
-    assert_eq!(rt;
-        wrong_row(&Booked { rt, steps: 0 }, alloc, &ROWS, way),
-        None
-    );
+    let booked = Booked { rt, steps: 0 };
+    assert_eq!(rt; wrong_row(&booked, alloc, &ROWS, way), None);
 }
 
 #[test]
@@ -101,13 +89,11 @@ fn each_row_however_it_is_cut_and_whatever_fails(rt: HostRuntime) {
 #[test]
 fn no_command_ends_once_all_numbers_are_given(rt: HostRuntime) {
     let alloc = rt.alloc();
-    for (steps, row) in LAST_ROWS {
+    for &(steps, row) in &LAST_ROWS {
         for way in [Way::InPieces, Way::WithFaults] {
             assert_eq!(&rt; wrong_row(&Restored { steps }, alloc, &[row], way), None);
-            assert_eq!(&rt;
-                wrong_row(&Booked { rt: &rt, steps }, alloc, &[row], way),
-                None
-            );
+            let booked = Booked { rt: &rt, steps };
+            assert_eq!(&rt; wrong_row(&booked, alloc, &[row], way), None);
         }
     }
 }
@@ -119,10 +105,8 @@ fn a_stamp_is_shown_where_it_is_asked_for_and_met_once(rt: HostRuntime) {
     for way in [Way::InPieces, Way::WithFaults] {
         assert_eq!(&rt; wrong_row(&Plain, alloc, &[COMMAND_STAMPS], way), None);
         assert_eq!(&rt; wrong_row(&Stated, alloc, &[STEP_STAMPS], way), None);
-        assert_eq!(&rt;
-            wrong_row(&Booked { rt: &rt, steps: 0 }, alloc, &[STEP_STAMPS], way),
-            None
-        );
+        let booked = Booked { rt: &rt, steps: 0 };
+        assert_eq!(&rt; wrong_row(&booked, alloc, &[STEP_STAMPS], way), None);
     }
 }
 
@@ -166,7 +150,7 @@ fn told_by_calls(alloc: Global, asked: &[u8], cut: usize) -> Option<Vec<u8>> {
 #[test]
 fn calls_tell_what_a_session_tells(rt: HostRuntime) {
     let alloc = rt.alloc();
-    for text in ROWS {
+    for &text in &ROWS {
         let row = row_of(alloc, text).expect(&rt, "row");
         for cut in 0..row.asked.len() + 1 {
             let told = told_by_calls(alloc, &row.asked, cut).expect(&rt, "memory");
@@ -227,9 +211,8 @@ fn the_longest_requests_are_answered_and_what_follows(rt: HostRuntime) -> Result
     let long = framed(alloc, "04 7ff9", "6b", 32_761).expect(&rt, "bytes");
     let longest = framed(alloc, "04 7ffd", "6b", 32_765).expect(&rt, "bytes");
     let get = bytes_of(alloc, "00000005 02 0001 6b 00").expect(&rt, "bytes");
-    let asked = [OPEN_7.as_slice(), &long, &longest, &get]
-        .as_slice()
-        .concat(alloc)?;
+    let parts = [OPEN_7.as_slice(), &long, &longest, &get];
+    let asked = parts.as_slice().concat(alloc)?;
     let told = bytes_of(alloc, "00000001 00 00000001 81 00000001 81 00000001 01");
     let told = told.expect(&rt, "bytes");
     for size in [1, 1_000, 7_000, ALL] {
@@ -267,12 +250,8 @@ fn a_session_finds_nothing_of_the_one_before_it(rt: HostRuntime) {
         ("00000005 01 00000007 00000000 0001", ALL, "refused"),
     ] {
         assert_eq!(rt; over(&rt, alloc, &mut buffers, (asked, writes)).1, end);
-        let (told, ended) = over(
-            &rt,
-            alloc,
-            &mut buffers,
-            ("00000005 01 00000007 00000005 02 0001 6b 00", ALL),
-        );
+        let next = ("00000005 01 00000007 00000005 02 0001 6b 00", ALL);
+        let (told, ended) = over(&rt, alloc, &mut buffers, next);
         let wanted = bytes_of(alloc, "00000001 00 00000001 01").expect(&rt, "bytes");
         assert!(rt; told.as_slice() == wanted.as_slice());
         assert_eq!(rt; ended, "closed");

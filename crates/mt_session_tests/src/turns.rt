@@ -72,7 +72,7 @@ pub struct Counted<'a, W> {
     /// What is written to.
     pub stream: W,
     /// How many bytes were written.
-    pub written: &'a Cell<usize>,
+    pub count: &'a Cell<usize>,
 }
 
 impl<W: Write> Write for Counted<'_, W> {
@@ -80,7 +80,7 @@ impl<W: Write> Write for Counted<'_, W> {
 
     fn write(&mut self, text: &[u8]) -> io::Result<usize> {
         let count = self.stream.write(text)?;
-        self.written.set(self.written.get().saturating_add(count));
+        self.count.set(self.count.get().saturating_add(count));
         Ok(count)
     }
 

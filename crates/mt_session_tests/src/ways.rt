@@ -9,19 +9,17 @@ use mt_streams::{Sink, Source};
 use std::alloc::Global;
 use std::cell::Cell;
 
+/// How a session ended, or why it failed.
+pub type End = Result<Ended, ServeFault>;
+
 /// What is tested: sessions over a caller of its own.
 pub trait TestServer {
     /// Serves these streams, over a new state.
-    fn serve_new<R: Source, W: Sink>(
-        &self,
-        alloc: Global,
-        reader: &mut R,
-        writer: &mut W,
-    ) -> Result<Ended, ServeFault>;
+    fn serve_new<R: Source, W: Sink>(&self, alloc: Global, reader: &mut R, writer: &mut W) -> End;
 }
 
 /// The name of an end.
-pub fn name_of(ended: &Result<Ended, ServeFault>) -> &'static str {
+pub fn name_of(ended: &End) -> &'static str {
     match ended {
         Ok(Ended::Closed) => "closed",
         Ok(Ended::Cut) => "cut",
@@ -68,10 +66,8 @@ fn in_turns<S: TestServer>(
     let written = Cell::new(0);
     let mut reader = Waiting::new(&row.asked, &row.told, size, &written);
     let (_, stream) = streams(alloc, b"", [size, size, ALL, ALL]);
-    let mut writer = Counted {
-        stream,
-        written: &written,
-    };
+    let count = &written;
+    let mut writer = Counted { stream, count };
     let ended = name_of(&server.serve_new(alloc, &mut reader, &mut writer));
     (writer.stream, ended)
 }

@@ -178,12 +178,11 @@ const CASES: [Case; 22] = [
 #[test]
 fn commands_are_answered_or_refused(rt: HostRuntime) {
     let mut map = PlainMap::new(rt.alloc());
-    let mut kept = Command::Remove {
-        key: key_of(&rt, rt.alloc(), b""),
-    };
+    let key = key_of(&rt, rt.alloc(), b"");
+    let mut kept = Command::Remove { key };
     let mut number = 1u64;
-    for case in CASES {
-        tells(&rt, rt.alloc(), &mut map, &mut kept, number, case);
+    for case in &CASES {
+        tells(&rt, rt.alloc(), &mut map, &mut kept, number, *case);
         number = number.wrapping_add(1);
     }
     assert!(rt; map.len() == 3 && Refusal::NoStore.number() == 20);
@@ -274,16 +273,14 @@ fn merged(rt: &impl Abort, alloc: Global, old: Option<&Row>, list: List) -> Row 
 
 #[test]
 fn a_row_that_is_ready_serves_rows_that_are_no_longer(rt: HostRuntime) {
-    for (old, list, wanted) in MERGES {
+    for &(old, list, wanted) in &MERGES {
         let old = match old {
             [] => None,
             old => Some(merged(&rt, rt.alloc(), None, old)),
         };
         let row = merged(&rt, rt.alloc(), old.as_ref(), list);
         let mut told = String::new(rt.alloc());
-        assert!(rt;
-            push_row(&mut told, &row).is_ok() && told.as_str() == wanted,
-            "{wanted}"
-        );
+        let is_written = push_row(&mut told, &row).is_ok();
+        assert!(rt; is_written && told.as_str() == wanted, "{wanted}");
     }
 }

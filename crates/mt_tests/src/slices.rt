@@ -33,14 +33,9 @@ const CUTS: [(&[u8], usize, u64, Mark); 7] = [
 
 #[test]
 fn keys_are_cut_into_slices_and_marks(rt: HostRuntime) {
-    for (user_key, layer, slice, mark) in CUTS {
-        is_cut(
-            &rt,
-            &key_of(&rt, rt.alloc(), 7, user_key),
-            layer,
-            slice,
-            mark,
-        );
+    for &(user_key, layer, slice, mark) in &CUTS {
+        let key = key_of(&rt, rt.alloc(), 7, user_key);
+        is_cut(&rt, &key, layer, slice, mark);
     }
 }
 
@@ -73,7 +68,7 @@ const ORDERS: [((u32, &[u8]), (u32, &[u8]), Ordering); 4] = [
 
 #[test]
 fn keys_and_marks_are_in_the_order_of_the_bytes(rt: HostRuntime) {
-    for (key, other, order) in ORDERS {
+    for &(key, other, order) in &ORDERS {
         let key = key_of(&rt, rt.alloc(), key.0, key.1);
         let other = key_of(&rt, rt.alloc(), other.0, other.1);
         are_in_order(&rt, &key, &other, order);
@@ -81,8 +76,8 @@ fn keys_and_marks_are_in_the_order_of_the_bytes(rt: HostRuntime) {
     assert!(rt; Mark::Short(8).is_before(Mark::Long) && !Mark::Long.is_before(Mark::Short(8)));
 }
 
-// The least keys behind these bytes, from the slice on and through it.
-fn has_least(rt: &impl Abort, alloc: Global, prefix: &[u8], slice: u64, from: &[u8], through: &[u8])
+// The least key behind these bytes, from the slice on; and the one through it, which has more.
+fn has_least(rt: &impl Abort, alloc: Global, prefix: &[u8], slice: u64, from: &[u8], more: &[u8])
     requires whole { 4 ≤ length (least_from prefix.now slice) }
     requires within { length (least_from prefix.now slice) ≤ 255 }
     requires few { length prefix.now ≤ 246 }
@@ -90,35 +85,16 @@ fn has_least(rt: &impl Abort, alloc: Global, prefix: &[u8], slice: u64, from: &[
     let key = StoredKey::least_from(alloc, prefix, slice).expect(rt, "memory");
     assert!(rt; key.as_bytes() == from);
     let key = StoredKey::least_through(alloc, prefix, slice).expect(rt, "memory");
-    assert!(rt; key.as_bytes() == through);
+    let through = [from, more].as_slice().concat(alloc).expect(rt, "memory");
+    assert!(rt; key.as_bytes() == through.as_slice());
 }
 
 #[test]
 fn a_scan_goes_on_at_the_least_keys(rt: HostRuntime) {
-    has_least(
-        &rt,
-        rt.alloc(),
-        b"",
-        7 << 32,
-        b"\0\0\0\x07",
-        b"\0\0\0\x07\0\0\0\0\0",
-    );
-    has_least(
-        &rt,
-        rt.alloc(),
-        b"\0\0\0\x07abcd",
-        0,
-        b"\0\0\0\x07abcd\0",
-        b"\0\0\0\x07abcd\0\0\0\0\0\0\0\0\0",
-    );
-    has_least(
-        &rt,
-        rt.alloc(),
-        b"\0\0\0\x07abcd",
-        0x65 << 56,
-        b"\0\0\0\x07abcde",
-        b"\0\0\0\x07abcde\0\0\0\0\0\0\0\0",
-    );
+    let (alloc, abcd) = (rt.alloc(), b"\0\0\0\x07abcd");
+    has_least(&rt, alloc, b"", 7 << 32, b"\0\0\0\x07", &[0; 5]);
+    has_least(&rt, alloc, abcd, 0, b"\0\0\0\x07abcd\0", &[0; 8]);
+    has_least(&rt, alloc, abcd, 0x65 << 56, b"\0\0\0\x07abcde", &[0; 8]);
 }
 
 // The least key behind all that begin with these bytes.
@@ -131,12 +107,8 @@ fn has_behind(rt: &impl Abort, alloc: Global, prefix: &[u8], behind: Option<&[u8
 
 #[test]
 fn a_scan_goes_on_behind_a_tree(rt: HostRuntime) {
-    has_behind(&rt, rt.alloc(), b"\0\0\0\x07abcd", Some(b"\0\0\0\x07abce"));
-    has_behind(
-        &rt,
-        rt.alloc(),
-        b"\0\0\0\x07ab\xff\xff",
-        Some(b"\0\0\0\x07ac"),
-    );
-    has_behind(&rt, rt.alloc(), b"\0\0\0\x07\xff\xff\xff\xff", None);
+    let alloc = rt.alloc();
+    has_behind(&rt, alloc, b"\0\0\0\x07abcd", Some(b"\0\0\0\x07abce"));
+    has_behind(&rt, alloc, b"\0\0\0\x07ab\xff\xff", Some(b"\0\0\0\x07ac"));
+    has_behind(&rt, alloc, b"\0\0\0\x07\xff\xff\xff\xff", None);
 }
