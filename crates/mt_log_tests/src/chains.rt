@@ -15,12 +15,9 @@ use std::test::Fail;
 const PUT_ROWS: Rows = [0, 0, 0, 1, 0, 0, 0, 0];
 
 // A checkpoint that was walked from 6 to 9, and shows another row, so that it is told which was used.
-const WALK: Walk = Walk {
-    first: 6,
-    last: 9,
-    rows: [0, 0, 0, 2, 0, 0, 0, 0],
-    stamps: [0, 0, 0, 5, 0, 0, 0, 0],
-};
+const WALK: Walk = Walk((6, 9), WALK_ROWS, [0, 0, 0, 5, 0, 0, 0, 0]);
+
+const WALK_ROWS: Rows = [0, 0, 0, 2, 0, 0, 0, 0];
 
 // The worker's files: the next log was begun at a start, and goes up to a step, if it was.
 fn files_with(alloc: Global, start: Option<u64>, upto: Option<u64>) -> Result<FileImages, Refusal> {
@@ -55,64 +52,56 @@ fn told_of(alloc: Global, image: &FileImages, walk: Option<Walk>) -> Told {
     ))
 }
 
+const WALKED: Told = Ok((1, 9, Some(0), Some(WALK_ROWS)));
+
+const FALLS: Refusal = Refusal::StampsFall {
+    number: 0,
+    stamp: 5,
+};
+
+// Where the next log was begun, up to where it goes, the checkpoint, and what is told.
+const CASES: [(Option<u64>, Option<u64>, Option<Walk>, Told); 5] = [
+    // The next log was not begun, or has no batch yet.
+    (None, None, None, Ok((0, 6, None, Some(PUT_ROWS)))),
+    (Some(6), None, Some(WALK), Ok((0, 6, None, Some(PUT_ROWS)))),
+    // It goes up to the end of the checkpoint.
+    (Some(6), Some(9), Some(WALK), WALKED),
+    // It does, but no checkpoint covers what was before it: both logs are read.
+    (Some(6), Some(9), None, Ok((0, 9, None, Some(PUT_ROWS)))),
+    // It begins elsewhere than where the first one ends.
+    (Some(5), None, None, Err(FALLS)),
+];
+
 #[test]
-fn a_store_is_recovered_from_the_files_that_count(rt: HostRuntime) -> Result<(), Fail> {
+fn a_store_is_recovered_from_the_files_that_count(rt: HostRuntime) {
     let alloc = rt.alloc();
-    for (start, upto, walk, want) in [
-        // The next log was not begun, or has no batch yet.
-        (None, None, None, Ok((0, 6, None, Some(PUT_ROWS)))),
-        (Some(6), None, Some(WALK), Ok((0, 6, None, Some(PUT_ROWS)))),
-        // It goes up to the end of the checkpoint.
-        (
-            Some(6),
-            Some(9),
-            Some(WALK),
-            Ok((1, 9, Some(0), Some(WALK.rows))),
-        ),
-        // It does, but no checkpoint covers what was before it: both logs are read.
-        (Some(6), Some(9), None, Ok((0, 9, None, Some(PUT_ROWS)))),
-        // It begins elsewhere than where the first one ends.
-        (
-            Some(5),
-            None,
-            None,
-            Err(Refusal::StampsFall {
-                number: 0,
-                stamp: 5,
-            }),
-        ),
-    ] {
+    for &(start, upto, walk, want) in &CASES {
         let files = files_with(alloc, start, upto).expect(&rt, "files in memory");
         let told = told_of(alloc, &files, walk);
         assert!(rt; told == want, "{start:?} {upto:?}: {told:?}");
     }
-    Ok(())
 }
 
-const NO_LOG: Told = Err(Refusal::BadLog {
+const NO_LOG: Refusal = Refusal::BadLog {
     number: 0,
     offset: 0,
-});
+};
 
-const NONE_LEFT: Told = Err(Refusal::LogCount);
+// What stands in the plain file, and what is told of it if it is needed. An empty file and one that was given up are none.
+const PLAIN: [(&[u8], Refusal); 4] = [
+    (b"any", NO_LOG),
+    (b"", Refusal::LogCount),
+    (b"\x00", Refusal::LogCount),
+    (b"\x00any", Refusal::LogCount),
+];
 
-// Whatever stands in the plain file counts for nothing if the next log is enough, and is needed if it is not. An empty file
-// and one that was given up are none.
+// It counts for nothing if the next log is enough, and is needed if it is not.
 #[test]
 fn a_plain_file_counts_only_if_it_is_needed(rt: HostRuntime) -> Result<(), Fail> {
     let alloc = rt.alloc();
-    for (image, want) in [
-        (b"any".as_slice(), NO_LOG),
-        (b"", NONE_LEFT),
-        (b"\x00", NONE_LEFT),
-        (b"\x00any", NONE_LEFT),
-    ] {
-        for (walk, want) in [
-            (Some(WALK), Ok((1, 9, Some(0), Some(WALK.rows)))),
-            (None, want),
-        ] {
-            let files = files_with(alloc, Some(6), Some(9));
-            let mut files = files.expect(&rt, "files in memory");
+    for &(image, refusal) in &PLAIN {
+        for (walk, want) in [(Some(WALK), WALKED), (None, Err(refusal))] {
+            let mut files = files_with(alloc, Some(6), Some(9)).expect(&rt, "files");
             files.plain = image.to_vec(alloc)?;
             let told = told_of(alloc, &files, walk);
             assert!(rt; told == want, "{image:?}: {told:?}");

@@ -129,10 +129,7 @@ fn with_standing(standing: [Standing; 8], place: u8, now: Standing) -> [Standing
 // What stands at a key, none where its byte is 0.
 fn stamped_unless_0(alloc: Global, standing: Standing) -> Result<Option<StampedRow>, AllocError> {
     let (stamp, byte) = standing;
-    match row_unless_0(alloc, byte)? {
-        Some(row) => Ok(Some(StampedRow { stamp, row })),
-        None => Ok(None),
-    }
+    Ok(row_unless_0(alloc, byte)?.map(|row| StampedRow { stamp, row }))
 }
 
 // A put of a column of this byte, none where the lesser of the rows before and after is 0.

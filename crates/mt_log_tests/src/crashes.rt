@@ -97,7 +97,7 @@ fn an_opening_that_cuts_before_it_syncs_would_lose_the_log(rt: HostRuntime) -> R
     let alloc = rt.alloc();
     let open_gate = b"MTLOG\x02\x00\x01\x01";
     assert!(rt; opened(alloc, open_gate)? == Told::Bad(0, 8));
-    for (way, is_left) in [("cut", true), ("sync and cut", false), ("opening", false)] {
+    for &(way, is_left) in &[("cut", true), ("sync and cut", false), ("opening", false)] {
         let disk = cut_off(alloc, way)?;
         assert!(rt; disk.image() == EMPTY.as_slice(), "{way}");
         assert!(rt; disk.may_leave(&EMPTY), "{way}");

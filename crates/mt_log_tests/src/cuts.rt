@@ -66,7 +66,7 @@ fn leaves(alloc: Global, acts: &str, fails: [u64; 2], want: &[u8]) -> Result<boo
 #[test]
 fn a_cut_lets_go_of_what_it_cuts_off_alone(rt: HostRuntime) -> Result<(), Fail> {
     let alloc = rt.alloc();
-    for (acts, want) in ROWS {
+    for &(acts, want) in &ROWS {
         for first in 2..CALLS {
             for second in 2..CALLS {
                 let fails = [first, second];

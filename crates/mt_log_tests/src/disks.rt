@@ -59,7 +59,7 @@ const CASES: [(&str, u64, u64, u64, &str, &str); 18] = [
 #[test]
 fn a_crash_leaves_what_is_durable_and_tears_the_rest(rt: HostRuntime) -> Result<(), Fail> {
     let alloc = rt.alloc();
-    for (calls, fail, other, stop, read, line) in CASES {
+    for &(calls, fail, other, stop, read, line) in &CASES {
         let (image, fails) = (b"abcd".to_vec(alloc)?, [fail, other].to_vec(alloc)?);
         let mut disk = MemDisk::with_image(alloc, image, fails, Some(stop))?;
         call_all(&mut disk, calls);
@@ -96,7 +96,7 @@ fn goes_well(disk: &mut MemDisk, letters: &[u8]) -> bool {
 fn a_crash_ends_a_stop_and_keeps_the_plan(rt: HostRuntime) -> Result<(), Fail> {
     let alloc = rt.alloc();
     // A stop that came is over; one to come stays.
-    for (stop, letters) in [(1, "y.yy"), (2, "...."), (4, "y..."), (9, "y.yy")] {
+    for &(stop, letters) in &[(1, "y.yy"), (2, "...."), (4, "y..."), (9, "y.yy")] {
         let mut disk = crashed(alloc, stop)?;
         let is_found = disk.image() == b"a??d".as_slice() && disk.may_leave(b"a??d");
         assert!(rt; is_found && !disk.may_leave(b"abcd"), "stopped at {stop}");
@@ -166,10 +166,7 @@ fn reads_it<D: Disk>(disk: &mut D) -> bool {
 
 // A disk on a file of the system.
 fn found(alloc: Global, file: File) -> io::Result<FileDisk> {
-    match FileDisk::found(alloc, OsFile::new(file)) {
-        Ok(disk) => Ok(disk),
-        Err(_) => Err(ErrorKind::Other.into()),
-    }
+    FileDisk::found(alloc, OsFile::new(file)).map_err(|_| ErrorKind::Other.into())
 }
 
 // The mark of a log that is made on a disk, with a thousand batches.

@@ -9,15 +9,6 @@ use std::test::Fail;
 // How often a log is opened and appended to.
 const ROUNDS: u32 = 12;
 
-// What the process does after a call has failed.
-#[derive(Clone, Copy, Debug, PartialEq, Eq)]
-enum After {
-    // It goes on with the disk that it has.
-    GoesOn,
-    // It ends, and another one finds the file.
-    Restarts,
-}
-
 // The mark of the log that a loss of power leaves now, if it leaves one.
 fn left(alloc: Global, disk: &CachedDisk<MemFile>) -> Result<Option<u64>, AllocError> {
     match opened(alloc, disk.file().durable())? {
@@ -38,10 +29,11 @@ fn found_at_last(alloc: Global, file: MemFile) -> Option<CachedDisk<MemFile>> {
     None
 }
 
-// Appends three batches to a log whose calls with these numbers fail. Whether each batch that was
-// acknowledged is durable whenever power is lost, and all are in the end.
-fn keeps_acknowledged(alloc: Global, fails: Vec<u64>, after: After) -> Result<bool, AllocError> {
-    let file = MemFile::new(alloc, EMPTY.to_vec(alloc)?, fails)?;
+// Appends three batches to a log whose calls with these numbers fail. After a failure the process goes on with the disk that it
+// has, or ends, and another one finds the file. Whether each batch that was acknowledged is durable whenever power is lost, and
+// all are in the end.
+fn keeps_acknowledged(alloc: Global, fails: &[u64], restarts: bool) -> Result<bool, AllocError> {
+    let file = MemFile::new(alloc, EMPTY.to_vec(alloc)?, fails.to_vec(alloc)?)?;
     let Some(mut disk) = found_at_last(alloc, file) else {
         return Ok(false);
     };
@@ -52,37 +44,35 @@ fn keeps_acknowledged(alloc: Global, fails: Vec<u64>, after: After) -> Result<bo
         if left(alloc, &now)?.is_none_or(|kept| kept < acknowledged) {
             return Ok(false);
         }
-        let next = match after {
-            After::GoesOn => Some(now),
-            After::Restarts => found_at_last(alloc, now.into_file()),
-        };
-        let Some(next) = next else {
-            return Ok(false);
-        };
-        disk = next;
+        disk = now;
+        if restarts {
+            let Some(found) = found_at_last(alloc, disk.into_file()) else {
+                return Ok(false);
+            };
+            disk = found;
+        }
     }
     Ok(acknowledged == 3 && left(alloc, &disk)? == Some(3))
 }
 
-// The numbers of the calls that fail: one, and so many more of those after it.
-fn failing(alloc: Global, first: u64, more: &[u64]) -> Result<Vec<u64>, AllocError> {
-    let mut fails = Vec::new(alloc);
-    fails.push(first)?;
-    for behind in more {
-        fails.push(first.saturating_add(*behind))?;
-    }
-    Ok(fails)
-}
+// The calls that fail, counted from the first of them.
+const FAILS: [[u64; 6]; 5] = [
+    [0; 6],
+    [0, 1, 1, 1, 1, 1],
+    [0, 1, 2, 3, 4, 5],
+    [0, 2, 5, 5, 5, 5],
+    [0, 7, 8, 8, 8, 8],
+];
 
 #[test]
 fn a_failed_sync_loses_nothing_acknowledged(rt: HostRuntime) -> Result<(), Fail> {
     let alloc = rt.alloc();
-    for more in [&[][..], &[1], &[1, 2, 3, 4, 5], &[2, 5], &[7, 8]] {
-        for first in 1..24 {
-            for after in [After::GoesOn, After::Restarts] {
-                let fails = failing(alloc, first, more)?;
-                let is_kept = keeps_acknowledged(alloc, fails, after)?;
-                assert!(rt; is_kept, "{first} {more:?} {after:?}");
+    for later in &FAILS {
+        for first in 1..24u64 {
+            let fails = later.map(|later| first.saturating_add(later));
+            for restarts in [false, true] {
+                let is_kept = keeps_acknowledged(alloc, &fails, restarts)?;
+                assert!(rt; is_kept, "{fails:?} {restarts}");
             }
         }
     }

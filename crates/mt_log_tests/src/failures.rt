@@ -1,7 +1,7 @@
 //! Each call of a disk failing, alone and with a later one.
 
 use crate::slots::{Rows, rows_of, unless_device};
-use crate::stores::{Failures, NONE, Store};
+use crate::stores::{Failures, Store};
 use mt_rows::Refusal;
 use std::alloc::Global;
 use std::process::Abort;
@@ -44,7 +44,7 @@ fn recovered(store: &mut Store, with_crash: bool) -> Result<(u64, Option<Rows>),
 
 // Whether what settled is recovered, and recovered again.
 fn keeps_all(store: &mut Store, with_crash: bool) -> Result<bool, Refusal> {
-    for (worker, key, flushed) in STEPS {
+    for &(worker, key, flushed) in &STEPS {
         store.history.place(worker, key)?;
         if flushed {
             let _ = unless_device(store.flush(worker))?;
@@ -67,19 +67,12 @@ fn keeps_all(store: &mut Store, with_crash: bool) -> Result<bool, Refusal> {
 
 // A new store of two workers does, whichever of their disks fails at these calls. The first three make its file. Here a
 // plain disk makes some sixty calls, and a numbered one some fifteen.
-fn expect_all_kept(rt: &impl Abort, alloc: Global, first: u64, second: u64) {
-    let disks = if first < 20 { 3 } else { 1 };
+fn expect_all_kept(rt: &impl Abort, alloc: Global, calls: [u64; 2]) {
+    let disks = if calls[0] < 20 { 3 } else { 1 };
     for worker in 0..2 {
         for disk in 0..disks {
-            let failures = Failures {
-                worker,
-                disk,
-                first,
-                second,
-                ..NONE
-            };
-            expect_kept(rt, alloc, failures, false);
-            expect_kept(rt, alloc, failures, true);
+            expect_kept(rt, alloc, Failures(worker, disk, calls), false);
+            expect_kept(rt, alloc, Failures(worker, disk, calls), true);
         }
     }
 }
@@ -94,7 +87,7 @@ fn expect_kept(rt: &impl Abort, alloc: Global, failures: Failures, with_crash: b
 #[test]
 fn each_call_fails_once_and_nothing_is_lost(rt: HostRuntime) {
     for call in 4..70 {
-        expect_all_kept(&rt, rt.alloc(), call, 0);
+        expect_all_kept(&rt, rt.alloc(), [call, 0]);
     }
 }
 
@@ -103,7 +96,7 @@ fn each_call_fails_once_and_nothing_is_lost(rt: HostRuntime) {
 fn two_calls_fail_and_nothing_is_lost(rt: HostRuntime) {
     for call in 4..70 {
         for later in [1, 4, 9, 20] {
-            expect_all_kept(&rt, rt.alloc(), call, call + later);
+            expect_all_kept(&rt, rt.alloc(), [call, call + later]);
         }
     }
 }

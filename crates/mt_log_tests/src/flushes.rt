@@ -77,16 +77,6 @@ fn play(rt: &impl Abort, alloc: Global, workers: usize, failures: Failures, acts
     }
 }
 
-// Which calls of a disk of worker 0 fail.
-fn failing(disk: usize, first: u64, second: u64) -> Failures {
-    Failures {
-        disk,
-        first,
-        second,
-        ..NONE
-    }
-}
-
 #[test]
 fn a_store_flushes_and_is_recovered(rt: HostRuntime) {
     // Nothing happens between the second flush up to 5 and the third, so that nothing is appended. The other log moves on
@@ -105,7 +95,7 @@ fn a_batch_that_waited_is_appended_once(rt: HostRuntime) {
         "place 0 1, flush 0 fails, place 0 2, keeps 0 one, flush 0 fails, reopen 0, ends 0 1, keeps 0 none, \
         flush 0 2, has 0 2";
     for call in [4, 5, 6, 7] {
-        play(&rt, rt.alloc(), 1, failing(0, call, 0), waits);
+        play(&rt, rt.alloc(), 1, Failures(0, 0, [call, 0]), waits);
     }
     let goes_well =
         "place 0 1, flush 0 1, place 0 2, keeps 0 none, reopen 0, ends 0 1, keeps 0 none, flush 0 2, has 0 2";
@@ -116,17 +106,13 @@ fn a_batch_that_waited_is_appended_once(rt: HostRuntime) {
 #[test]
 fn batches_that_waited_for_two_calls_are_appended_once(rt: HostRuntime) {
     for call in 5..17 {
-        let (reopens, upto) = if call > 12 {
-            ("reopen 0", 2)
-        } else {
-            ("reopen 0 fails", 1)
-        };
+        let (end, upto) = if call > 12 { ("", 2) } else { (" fails", 1) };
         let acts = format!(in rt.alloc();
-            "place 0 1, flush 0 fails, {reopens}, place 0 2, flush 0 fails, reopen 0, ends 0 {upto}, keeps 0 none, \
+            "place 0 1, flush 0 fails, reopen 0{end}, place 0 2, flush 0 fails, reopen 0, ends 0 {upto}, keeps 0 none, \
             flush 0 2, has 0 2"
         );
         let acts = acts.expect(&rt, "memory");
-        play(&rt, rt.alloc(), 1, failing(0, 4, call), acts.as_str());
+        play(&rt, rt.alloc(), 1, Failures(0, 0, [4, call]), &acts);
     }
 }
 
@@ -137,24 +123,19 @@ fn a_next_log_that_may_be_there_is_found_or_not(rt: HostRuntime) {
     for call in 4..12 {
         let generation = if call == 11 { 1 } else { 0 };
         for later in 0..4 {
-            let reopens = if later == 0 {
-                "reopen 0, ends 0 1"
+            let (end, upto) = if later == 0 {
+                ("", "1")
             } else {
-                "reopen 0 fails, ends 0 closed"
+                (" fails", "closed")
             };
             let acts = format!(in rt.alloc();
-                "place 0 1, flush 0 1, begin 0 fails, ends 0 closed, place 0 2, flush 0 fails, keeps 0 none, {reopens}, \
-                reopen 0, is_in 0 {generation}, ends 0 1, flush 0 2, has 0 2, is_in 0 {generation}, place 0 1, flush 0 3, \
+                "place 0 1, flush 0 1, begin 0 fails, ends 0 closed, place 0 2, flush 0 fails, keeps 0 none, reopen 0{end}, \
+                ends 0 {upto}, reopen 0, is_in 0 {generation}, ends 0 1, flush 0 2, has 0 2, is_in 0 {generation}, place 0 1, flush 0 3, \
                 crash, recover 3 3, is_in 0 {generation}, has 0 4"
             );
             let acts = acts.expect(&rt, "memory");
-            play(
-                &rt,
-                rt.alloc(),
-                1,
-                failing(2, call, call + later),
-                acts.as_str(),
-            );
+            let failures = Failures(0, 2, [call, call + later]);
+            play(&rt, rt.alloc(), 1, failures, &acts);
         }
     }
 }
@@ -163,7 +144,7 @@ fn a_next_log_that_may_be_there_is_found_or_not(rt: HostRuntime) {
 // batches or two, the resume batch, and one more.
 #[test]
 fn a_store_in_a_turn_is_recovered(rt: HostRuntime) {
-    for (begins, generation) in [
+    for &(begins, generation) in &[
         ("flush 1 2, begin 0, flush 1 2", 0),
         ("flush 1 2, begin 0, begin 1", 1),
         ("begin 0, flush_and_begin 1 2", 1),
@@ -174,6 +155,6 @@ fn a_store_in_a_turn_is_recovered(rt: HostRuntime) {
             place 1 1, settle 6, crash, has 0 5, has 1 4, is_in 0 1, is_in 1 {generation}, ends 0 6, ends 1 6"
         );
         let acts = acts.expect(&rt, "memory");
-        play(&rt, rt.alloc(), 2, NONE, acts.as_str());
+        play(&rt, rt.alloc(), 2, NONE, &acts);
     }
 }

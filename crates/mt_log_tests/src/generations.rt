@@ -28,28 +28,24 @@ const HEADER: Header = Header {
 };
 
 // What an opening tells: the generation, the start and the number of batches of its log, or that it has none.
-#[derive(Clone, Copy, Debug, PartialEq, Eq)]
-enum Found {
-    Log(u64, u64, usize),
-    NoLog,
-    Bad(u8, u64),
-    Failed,
+type Found = Result<Option<(u64, u64, usize)>, Refusal>;
+
+// No log, of which this number is told.
+fn bad(number: u8) -> Found {
+    let offset = 0;
+    Err(Refusal::BadLog { number, offset })
 }
 
 type Place = LogSlot<MemDisk>;
 
-// The place of a file with these bytes, one call of whose disk fails.
-fn place_with(alloc: Global, image: &[u8], fail: u64) -> Result<Place, AllocError> {
-    Ok(LogSlot::Closed(disk_with(alloc, image, fail, 99)?))
+// The place of a file with these bytes.
+fn place_with(alloc: Global, image: &[u8]) -> Result<Place, AllocError> {
+    Ok(LogSlot::Closed(disk_with(alloc, image, 0, 99)?))
 }
 
 fn find(alloc: Global, slot: &mut Place, parity: Parity) -> Found {
-    match open_numbered(alloc, slot, parity) {
-        Ok(Some(front)) => Found::Log(front.generation, front.start, front.batches.len()),
-        Ok(None) => Found::NoLog,
-        Err(Refusal::BadLog { number, offset }) => Found::Bad(number, offset),
-        Err(_) => Found::Failed,
-    }
+    let front = open_numbered(alloc, slot, parity)?;
+    Ok(front.map(|front| (front.generation, front.start, front.batches.len())))
 }
 
 // Whether a place's file has these bytes.
@@ -92,14 +88,14 @@ fn count_again(
 #[test]
 fn a_generation_is_begun_appended_to_joined_and_given_up(rt: HostRuntime) -> Result<(), Fail> {
     let alloc = rt.alloc();
-    let mut first = place_with(alloc, &EMPTY, 0)?;
+    let mut first = place_with(alloc, &EMPTY)?;
     let plain = open_slot(alloc, &mut first).is_ok();
     assert!(rt; plain && appends(alloc, &mut first, 6));
-    let mut next = place_with(alloc, &[0], 0)?;
-    assert!(rt; find(alloc, &mut next, Parity::Odd) == Found::NoLog);
+    let mut next = place_with(alloc, &[0])?;
+    assert!(rt; find(alloc, &mut next, Parity::Odd) == Ok(None));
     assert!(rt; begin(&mut next, HEADER).is_ok());
     assert!(rt; has(&mut next, &BEGUN));
-    assert!(rt; find(alloc, &mut next, Parity::Odd) == Found::Log(1, 6, 0));
+    assert!(rt; find(alloc, &mut next, Parity::Odd) == Ok(Some((1, 6, 0))));
     assert!(rt; appends(alloc, &mut next, 9));
     let older = open_slot(alloc, &mut first).expect(&rt, "the older log opens");
     let newer = open_numbered(alloc, &mut next, Parity::Odd).expect(&rt, "the next log opens");
@@ -113,7 +109,7 @@ fn a_generation_is_begun_appended_to_joined_and_given_up(rt: HostRuntime) -> Res
     assert!(rt; cutoff(&[chain]) == 9);
     assert!(rt; give_up(&mut next).is_ok());
     assert!(rt; has(&mut next, &[0]));
-    assert!(rt; find(alloc, &mut next, Parity::Odd) == Found::NoLog);
+    assert!(rt; find(alloc, &mut next, Parity::Odd) == Ok(None));
     Ok(())
 }
 
@@ -124,18 +120,18 @@ fn a_file_is_told_for_what_it_is(rt: HostRuntime) -> Result<(), Fail> {
     nought[16] = 0;
     let mut no_worker = BEGUN;
     no_worker[7] = 2;
-    for (image, parity, want) in [
-        (b"".as_slice(), Parity::Odd, Found::NoLog),
-        (b"\x00".as_slice(), Parity::Odd, Found::NoLog),
+    for &(image, parity, want) in &[
+        (b"".as_slice(), Parity::Odd, Ok(None)),
+        (b"\x00", Parity::Odd, Ok(None)),
         // A gate that a crash left torn, as the first byte of a plain file is one here.
-        (EMPTY.as_slice(), Parity::Odd, Found::NoLog),
-        (b"\x01".as_slice(), Parity::Odd, Found::Bad(0, 0)),
-        (BEGUN.as_slice(), Parity::Odd, Found::Log(1, 6, 0)),
-        (BEGUN.as_slice(), Parity::Even, Found::Bad(1, 0)),
-        (nought.as_slice(), Parity::Even, Found::Bad(1, 0)),
-        (no_worker.as_slice(), Parity::Odd, Found::Bad(2, 0)),
+        (&EMPTY, Parity::Odd, Ok(None)),
+        (b"\x01", Parity::Odd, bad(0)),
+        (&BEGUN, Parity::Odd, Ok(Some((1, 6, 0)))),
+        (&BEGUN, Parity::Even, bad(1)),
+        (&nought, Parity::Even, bad(1)),
+        (&no_worker, Parity::Odd, bad(2)),
     ] {
-        let mut slot = place_with(alloc, image, 0)?;
+        let mut slot = place_with(alloc, image)?;
         let found = find(alloc, &mut slot, parity);
         assert!(rt; found == want, "{image:?}: {found:?}");
     }
@@ -148,9 +144,8 @@ fn a_file_is_told_for_what_it_is(rt: HostRuntime) -> Result<(), Fail> {
 fn a_log_is_given_back_by_its_own_calls(rt: HostRuntime) -> Result<(), Fail> {
     let alloc = rt.alloc();
     let disk = disk_with(alloc, &[0], 0, 99)?;
-    let log = LogFile::begin(disk, 1, 2, 1, 6)
-        .ok()
-        .expect(&rt, "a sound disk takes a log");
+    let log = LogFile::begin(disk, 1, 2, 1, 6).ok();
+    let log = log.expect(&rt, "a sound disk takes a log");
     assert!(rt; log.mark() == 6 && log.disk().image() == BEGUN.as_slice());
     let disk = log.give_up().ok().expect(&rt, "a sound disk gives it up");
     assert!(rt; disk.image() == [0].as_slice());

@@ -142,11 +142,8 @@ pub fn front_of(alloc: Global, image: &[u8]) -> Result<Front, AllocError> {
 
 // Whether these are printed alike.
 fn are_alike(alloc: Global, batch: &LogBatch, other: &LogBatch) -> Result<bool, AllocError> {
-    let (text, other) = (
-        format!(in alloc; "{batch:?}")?,
-        format!(in alloc; "{other:?}")?,
-    );
-    Ok(text.as_str() == other.as_str())
+    let text = format!(in alloc; "{batch:?}")?;
+    Ok(text.as_str() == format!(in alloc; "{other:?}")?.as_str())
 }
 
 /// The records of a log that is read again, if that gives the batches of its front and no others.
@@ -180,12 +177,8 @@ pub fn read_again<D: Disk>(
 
 /// A disk on which this image is durable, one call of which fails, and all from another on.
 pub fn disk_with(alloc: Global, image: &[u8], fail: u64, stop: u64) -> Result<MemDisk, AllocError> {
-    MemDisk::with_image(
-        alloc,
-        image.to_vec(alloc)?,
-        [fail].to_vec(alloc)?,
-        Some(stop),
-    )
+    let (image, fails) = (image.to_vec(alloc)?, [fail].to_vec(alloc)?);
+    MemDisk::with_image(alloc, image, fails, Some(stop))
 }
 
 /// What comes of opening a file with these bytes.

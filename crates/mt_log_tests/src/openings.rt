@@ -1,7 +1,7 @@
 //! Which log is told where some are not made or opened; and crashes.
 
 use crate::stores::{
-    Failures, NONE, Store, bare_slots, create, images_of, logs_with, mark_of, new_logs,
+    Failures, Logs, NONE, Store, bare_slots, create, images_of, logs_with, mark_of, new_logs,
 };
 use mt_disk::MemDisk;
 use mt_rows::{Refusal, Tenants};
@@ -29,12 +29,7 @@ fn is_made_later(logs: &mut [StoreLog<MemDisk>], worker: usize, disk: usize) -> 
 fn the_log_that_is_not_made_is_told(rt: HostRuntime) -> Result<(), Fail> {
     for worker in 0..3 {
         for disk in 0..3 {
-            let failures = Failures {
-                worker,
-                disk,
-                first: 2,
-                ..NONE
-            };
+            let failures = Failures(worker, disk, [2, 0]);
             let mut logs = new_logs(rt.alloc(), 3, failures)?;
             assert!(rt; is_made_later(&mut logs, worker, disk), "{failures:?}");
         }
@@ -43,12 +38,7 @@ fn the_log_that_is_not_made_is_told(rt: HostRuntime) -> Result<(), Fail> {
 }
 
 // The logs of three workers, the plain file of one of which is that of another, cut to so many bytes.
-fn logs_of_three(
-    alloc: Global,
-    log: usize,
-    len: usize,
-    other: usize,
-) -> Result<Vec<StoreLog<MemDisk>>, Refusal> {
+fn logs_of_three(alloc: Global, log: usize, len: usize, other: usize) -> Result<Logs, Refusal> {
     let store = Store::new(alloc, 3, NONE)?;
     let mut images = images_of(alloc, &store.logs)?;
     let mut plain = match images.get(other) {
@@ -64,21 +54,18 @@ fn logs_of_three(
 
 // Of how many of three logs it was told that their files are open, in their order: the numbered ones and the plain one.
 #[derive(Clone, Copy, Debug, PartialEq, Eq)]
-struct Heard {
-    numbered: usize,
-    plain: usize,
-}
+struct Heard(usize, usize);
 
 impl Watch for Heard {
     fn opened_numbered(&mut self, logs: usize, of: usize) {
-        if of == 3 && self.plain == 0 && logs == self.numbered.saturating_add(1) {
-            self.numbered = logs;
+        if of == 3 && self.1 == 0 && logs == self.0.saturating_add(1) {
+            self.0 = logs;
         }
     }
 
     fn opened_plain(&mut self, logs: usize, of: usize) {
-        if of == 3 && self.numbered == 3 && logs == self.plain.saturating_add(1) {
-            self.plain = logs;
+        if of == 3 && self.0 == 3 && logs == self.1.saturating_add(1) {
+            self.1 = logs;
         }
     }
 }
@@ -92,10 +79,7 @@ fn is_refused(
     want: Heard,
 ) -> bool {
     let tenants = Tenants::new(alloc);
-    let mut heard = Heard {
-        numbered: 0,
-        plain: 0,
-    };
+    let mut heard = Heard(0, 0);
     let recovered = recover_store(alloc, logs, slots, &tenants, &mut heard);
     recovered.is_err_and(|e| e == refusal) && heard == want
 }
@@ -107,9 +91,8 @@ fn is_refused_after(
     refusal: LogRefusal,
     plain: usize,
 ) -> bool {
-    let want = Heard { numbered: 3, plain };
-    let mut slots = bare_slots(alloc);
-    is_refused(alloc, logs, &mut slots, StoreRefusal::Logs(refusal), want)
+    let (mut slots, refusal) = (bare_slots(alloc), StoreRefusal::Logs(refusal));
+    is_refused(alloc, logs, &mut slots, refusal, Heard(3, plain))
 }
 
 // Whether of three logs this one is told, which ends at its first batch: each time they are opened, and by a recovery.
@@ -161,11 +144,7 @@ fn no_log_is_opened_before_both_slots_are_read(rt: HostRuntime) -> Result<(), Fa
         let mut slots = slots_without(alloc, slot);
         let cause = FaultCause::Device;
         let refusal = StoreRefusal::Slot(SlotFault { slot, cause });
-        let none = Heard {
-            numbered: 0,
-            plain: 0,
-        };
-        let is_told = is_refused(alloc, &mut logs, &mut slots, refusal, none);
+        let is_told = is_refused(alloc, &mut logs, &mut slots, refusal, Heard(0, 0));
         let are_closed = logs.iter().all(|log| log.mark().is_none());
         assert!(rt; is_told && are_closed, "{slot:?}");
     }
@@ -194,29 +173,17 @@ fn are_same(some: &FileImages, others: &FileImages) -> bool {
 fn crashes(alloc: Global, store: &mut Store, images: &[FileImages]) -> Result<bool, Refusal> {
     let is_left = crash_logs(alloc, &mut store.logs, images)?;
     let left = images_of(alloc, &store.logs)?;
-    let are_left = left
-        .iter()
-        .zip(images)
-        .all(|(left, image)| are_same(left, image));
-    Ok(
-        is_left
-            && are_left
-            && store
-                .logs
-                .iter()
-                .all(|log| log.mark().is_none() && !log.keeps()),
-    )
+    let mut pairs = left.iter().zip(images);
+    let are_left = pairs.all(|(left, image)| are_same(left, image));
+    let mut logs = store.logs.iter();
+    let are_closed = logs.all(|log| log.mark().is_none() && !log.keeps());
+    Ok(is_left && are_left && are_closed)
 }
 
 #[test]
 fn a_crash_takes_every_disk_or_none(rt: HostRuntime) -> Result<(), Fail> {
     let alloc = rt.alloc();
-    let failures = Failures {
-        worker: 1,
-        first: 5,
-        ..NONE
-    };
-    let mut store = Store::new(alloc, 2, failures)?;
+    let mut store = Store::new(alloc, 2, Failures(1, 0, [5, 0]))?;
     let mut empty = images_of(alloc, &store.logs)?;
     assert!(rt; drain_both(&mut store));
     let mut first = images_of(alloc, &store.logs)?;

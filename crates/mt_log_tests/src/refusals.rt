@@ -22,7 +22,7 @@ enum At {
     Tenant = 45,
     Stamp2 = 61,
     Tenant2 = 65,
-    ResumeGate = 74,
+    Gate = 74,
     ResumeFrom = 87,
     ResumeTo = 95,
     Kept = 103,
@@ -41,16 +41,6 @@ enum Want {
     Pairs(usize),
     Falls(u8, u64),
     Told(Refusal),
-}
-
-impl Want {
-    fn told(self) -> Result<usize, Refusal> {
-        match self {
-            Pairs(pairs) => Ok(pairs),
-            Falls(number, stamp) => Err(Refusal::StampsFall { number, stamp }),
-            Told(refusal) => Err(refusal),
-        }
-    }
 }
 
 // The files of the first of three workers, changed.
@@ -105,16 +95,10 @@ const CASES: [(u8, u32, Edit, Edit, Want); 34] = [
     (3, 5, (1, At::Stamp2, 7), SAME, Falls(1, 7)),
     (3, 5, (2, At::Stamp, 0), (1, At::Stamp2, 7), Falls(1, 7)),
     // A log that is older than the others, after a fall in a single log, and before a stamp in two.
-    (3, 5, (1, At::ResumeGate, 0), SAME, Falls(1, 8)),
-    (3, 5, (1, At::ResumeGate, 0), (2, At::Stamp, 0), Falls(2, 0)),
-    (3, 5, (1, At::ResumeGate, 0), (2, At::Stamp, 1), Falls(1, 8)),
-    (
-        3,
-        5,
-        (1, At::ResumeGate, 0),
-        (0, At::Tenant, 8),
-        Falls(1, 8),
-    ),
+    (3, 5, (1, At::Gate, 0), SAME, Falls(1, 8)),
+    (3, 5, (1, At::Gate, 0), (2, At::Stamp, 0), Falls(2, 0)),
+    (3, 5, (1, At::Gate, 0), (2, At::Stamp, 1), Falls(1, 8)),
+    (3, 5, (1, At::Gate, 0), (0, At::Tenant, 8), Falls(1, 8)),
     // A stamp in two or three logs, the highest of these, also one that is void; the least stamp.
     (3, 5, (1, At::Stamp, 1), SAME, Falls(1, 1)),
     (3, 5, (2, At::Stamp, 1), SAME, Falls(2, 1)),
@@ -133,8 +117,13 @@ const CASES: [(u8, u32, Edit, Edit, Want); 34] = [
 
 #[test]
 fn each_refusal_comes_before_the_next(rt: HostRuntime) {
-    for (given, quota, first, second, want) in CASES {
+    for &(given, quota, first, second, want) in &CASES {
+        let want = match want {
+            Pairs(pairs) => Ok(pairs),
+            Falls(number, stamp) => Err(Refusal::StampsFall { number, stamp }),
+            Told(refusal) => Err(refusal),
+        };
         let told = count_of(rt.alloc(), given, quota, [first, second]);
-        assert!(rt; told == want.told(), "{first:?}, {second:?}: {told:?}");
+        assert!(rt; told == want, "{first:?}, {second:?}: {told:?}");
     }
 }

@@ -55,10 +55,8 @@ fn a_log_goes_on_by_its_ends_after_two_failures(rt: HostRuntime) -> Result<(), F
     for call in FIRST_CALL..LAST_CALL + 1 {
         for later in 0..8 {
             let image = image_of(alloc, one.image(), &[call, call + later])?;
-            assert!(rt;
-                image.as_slice() == whole.image(),
-                "{call} and {later} calls later"
-            );
+            let is_whole = image.as_slice() == whole.image();
+            assert!(rt; is_whole, "{call} and {later} calls later");
         }
     }
     Ok(())

@@ -24,26 +24,23 @@ pub type Log = LogFile<MemDisk>;
 /// The rows of the keys 0 to 7, 0 where there is none. A key is a byte, and so is a row.
 pub type Rows = [u8; 8];
 
-/// A change of tenant 7 that a worker placed: the row of a key after it, none where it was removed.
+/// A change of tenant 7 that a worker placed: the row of a key after it, 0 where it was removed.
 #[derive(Clone, Copy)]
 pub struct Change {
     pub stamp: u64,
     pub worker: u8,
     pub key: u8,
-    pub row: Option<u8>,
+    pub row: u8,
     /// Whether a row was there, so that a log tells the column that was put, and not the whole row.
     pub over: bool,
 }
 
-/// What a checkpoint has.
+/// The first and the last step of a checkpoint.
+pub type Steps = (u64, u64);
+
+/// What a checkpoint has: its steps, its rows, and the stamps of these, 0 where there is none.
 #[derive(Clone, Copy)]
-pub struct Walk {
-    pub first: u64,
-    pub last: u64,
-    pub rows: Rows,
-    /// The stamps of these rows, 0 where there is none.
-    pub stamps: [u64; 8],
-}
+pub struct Walk(pub Steps, pub Rows, pub [u64; 8]);
 
 /// A put of a key where no row was.
 pub fn put(stamp: u64, worker: u8, key: u8, row: u8) -> Change {
@@ -51,7 +48,7 @@ pub fn put(stamp: u64, worker: u8, key: u8, row: u8) -> Change {
         stamp,
         worker,
         key,
-        row: Some(row),
+        row,
         over: false,
     }
 }
@@ -71,10 +68,8 @@ pub fn row_of(alloc: Global, byte: u8) -> Result<Row, AllocError> {
 pub fn change_of(alloc: Global, byte: u8) -> Result<ColumnChange, AllocError> {
     let mut columns = Vec::new(alloc);
     columns.push((0, Column::from_slice(alloc, &[byte])?))?;
-    match ColumnChange::new(NamedColumns::new(columns)) {
-        Ok(change) => Ok(change),
-        Err(_) => Err(AllocError),
-    }
+    let change = ColumnChange::new(NamedColumns::new(columns));
+    change.map_err(|_| AllocError)
 }
 
 /// A key of one byte.
@@ -101,9 +96,9 @@ fn record_of(alloc: Global, change: Change) -> Result<Record, AllocError>
 // What a log tells of a change.
 fn write_of(alloc: Global, change: Change) -> Result<Write, AllocError> {
     match change.row {
-        Some(byte) if change.over => Ok(Write::Changed(change_of(alloc, byte)?)),
-        Some(byte) => Ok(Write::Whole(row_of(alloc, byte)?)),
-        None => Ok(Write::Removed),
+        0 => Ok(Write::Removed),
+        byte if change.over => Ok(Write::Changed(change_of(alloc, byte)?)),
+        byte => Ok(Write::Whole(row_of(alloc, byte)?)),
     }
 }
 
@@ -182,9 +177,9 @@ pub fn resume(alloc: Global, log: Log, kept: u64, to: u64) -> Result<Log, Refusa
 // Pairs of the keys that have a row.
 fn pairs_in(alloc: Global, walk: Walk) -> Result<Vec<TenantPair>, AllocError> {
     let mut pairs = Vec::new(alloc);
+    let Walk(_, rows, stamps) = walk;
     for key in 0..8 {
-        let place = usize::from(key);
-        let (row, stamp) = (walk.rows[place], walk.stamps[place]);
+        let (row, stamp) = (rows[usize::from(key)], stamps[usize::from(key)]);
         if row != 0 {
             pairs.push(pair_of(alloc, key, row, stamp)?)?;
         }
@@ -207,20 +202,15 @@ fn slot_with(alloc: Global, walk: Option<Walk>) -> Result<MemDisk, Refusal> {
     let Some(walk) = walk else {
         return Ok(disk);
     };
+    let (first, last) = walk.0;
     let pairs = pairs_in(alloc, walk)?;
     if !keys_fit(&pairs) || create_slot(&mut disk).is_err() {
         return Err(Refusal::NoStore);
     }
-    let Ok(writer) = Writer::begin(disk, walk.first) else {
-        return Err(Refusal::Device);
-    };
-    let Ok(writer) = writer.add(alloc, &pairs) else {
-        return Err(Refusal::Memory);
-    };
-    match writer.end(alloc, walk.last) {
-        Ok((disk, _)) => Ok(disk),
-        Err(_) => Err(Refusal::Device),
-    }
+    let writer = Writer::begin(disk, first).map_err(|_| Refusal::Device)?;
+    let writer = writer.add(alloc, &pairs).map_err(|_| Refusal::Memory)?;
+    let (disk, _) = writer.end(alloc, last).map_err(|_| Refusal::Device)?;
+    Ok(disk)
 }
 
 /// Recovers a store from the files of its logs, over slots in which these walks were written; and what its files hold then.

@@ -17,7 +17,7 @@ use std::alloc::{AllocError, Global};
 #[derive(Drop)]
 pub struct Store {
     pub alloc: Global,
-    pub logs: Vec<StoreLog<MemDisk>>,
+    pub logs: Logs,
     pub slots: StoreSlots<MemDisk>,
     pub history: History,
 }
@@ -28,60 +28,45 @@ pub fn bare_slots(alloc: Global) -> StoreSlots<MemDisk> {
     StoreSlots::found(disk(), disk())
 }
 
-/// Which two calls of a worker's disk fail, and from which one on it makes none till a crash, 0 where none does. The disk is
-/// that of the plain file, of the even one or of the odd one, from 0 on.
+/// Of whose disk which two calls fail, 0 where none does: the worker, and the disk of its plain file, of the even one or of the
+/// odd one, from 0 on.
 #[derive(Clone, Copy, Debug)]
-pub struct Failures {
-    pub worker: usize,
-    pub disk: usize,
-    pub first: u64,
-    pub second: u64,
-    pub stop: u64,
-}
+pub struct Failures(pub usize, pub usize, pub [u64; 2]);
 
 /// None does.
-pub const NONE: Failures = Failures {
-    worker: 0,
-    disk: 0,
-    first: 0,
-    second: 0,
-    stop: 0,
-};
+pub const NONE: Failures = Failures(0, 0, [0; 2]);
 
-// An empty disk of a worker, some calls of which may fail.
+/// The logs of a store.
+pub type Logs = Vec<StoreLog<MemDisk>>;
+
+type Files = WorkerFiles<MemDisk>;
+
+// A disk without a byte, some calls of which fail.
 fn disk_of(
     alloc: Global,
-    worker: usize,
-    disk: usize,
+    place: (usize, usize),
     failures: Failures,
 ) -> Result<MemDisk, AllocError> {
-    if worker != failures.worker || disk != failures.disk {
-        return Ok(MemDisk::new(alloc, Vec::new(alloc), None));
-    }
-    let fails = [failures.first, failures.second].to_vec(alloc)?;
-    let stop = Some(failures.stop).filter(|call| *call > 0);
-    Ok(MemDisk::new(alloc, fails, stop))
+    let Failures(worker, disk, calls) = failures;
+    let calls = if place == (worker, disk) {
+        calls
+    } else {
+        [0; 2]
+    };
+    Ok(MemDisk::new(alloc, calls.to_vec(alloc)?, None))
 }
 
 // A worker's files on empty disks.
-fn new_files(
-    alloc: Global,
-    worker: usize,
-    failures: Failures,
-) -> Result<WorkerFiles<MemDisk>, AllocError> {
+fn new_files(alloc: Global, worker: usize, failures: Failures) -> Result<Files, AllocError> {
     Ok(WorkerFiles::closed(
-        disk_of(alloc, worker, 0, failures)?,
-        disk_of(alloc, worker, 1, failures)?,
-        disk_of(alloc, worker, 2, failures)?,
+        disk_of(alloc, (worker, 0), failures)?,
+        disk_of(alloc, (worker, 1), failures)?,
+        disk_of(alloc, (worker, 2), failures)?,
     ))
 }
 
 /// Closed logs on empty disks, some calls of one of which fail.
-pub fn new_logs(
-    alloc: Global,
-    workers: usize,
-    failures: Failures,
-) -> Result<Vec<StoreLog<MemDisk>>, Refusal> {
+pub fn new_logs(alloc: Global, workers: usize, failures: Failures) -> Result<Logs, Refusal> {
     let mut files = Vec::new(alloc);
     for worker in 0..workers {
         files.push(new_files(alloc, worker, failures)?)?;
@@ -90,10 +75,7 @@ pub fn new_logs(
 }
 
 // Closed logs on these files, where there are up to 64 of them.
-fn logs_on(
-    alloc: Global,
-    files: Vec<WorkerFiles<MemDisk>>,
-) -> Result<Vec<StoreLog<MemDisk>>, Refusal> {
+fn logs_on(alloc: Global, files: Vec<Files>) -> Result<Logs, Refusal> {
     if files.len() > 64 {
         return Err(Refusal::NoStore);
     }
@@ -106,7 +88,7 @@ fn disk_with(alloc: Global, image: &[u8]) -> Result<MemDisk, AllocError> {
 }
 
 /// Closed logs whose files have these images.
-pub fn logs_with(alloc: Global, images: &[FileImages]) -> Result<Vec<StoreLog<MemDisk>>, Refusal> {
+pub fn logs_with(alloc: Global, images: &[FileImages]) -> Result<Logs, Refusal> {
     let mut files = Vec::new(alloc);
     for image in images {
         files.push(WorkerFiles::closed(
@@ -130,10 +112,8 @@ pub fn image_of_log(alloc: Global, log: &Log) -> Result<FileImages, AllocError> 
 /// Makes logs, where there are 1 to 64 of them.
 pub fn create(logs: &mut [StoreLog<MemDisk>]) -> Result<(), LogRefusal> {
     if logs.is_empty() || logs.len() > 64 {
-        return Err(LogRefusal {
-            log: None,
-            refusal: Refusal::NoStore,
-        });
+        let (log, refusal) = (None, Refusal::NoStore);
+        return Err(LogRefusal { log, refusal });
     }
     create_logs(logs)
 }
@@ -149,7 +129,7 @@ fn image_of(alloc: Global, file: &LogSlot<MemDisk>) -> Result<Vec<u8>, Refusal> 
 }
 
 // What a read of a worker's disks gives.
-fn images_in(alloc: Global, files: &WorkerFiles<MemDisk>) -> Result<FileImages, Refusal> {
+fn images_in(alloc: Global, files: &Files) -> Result<FileImages, Refusal> {
     Ok(FileImages {
         plain: image_of(alloc, &files.plain)?,
         even: image_of(alloc, &files.even)?,
@@ -170,15 +150,13 @@ impl Store {
     /// A store without changes.
     pub fn new(alloc: Global, workers: usize, failures: Failures) -> Result<Store, Refusal> {
         let mut logs = new_logs(alloc, workers, failures)?;
-        match create(&mut logs) {
-            Ok(()) => Ok(Store {
-                alloc,
-                logs,
-                slots: bare_slots(alloc),
-                history: History::new(alloc, 0),
-            }),
-            Err(e) => Err(e.refusal),
-        }
+        create(&mut logs).map_err(|e| e.refusal)?;
+        Ok(Store {
+            alloc,
+            logs,
+            slots: bare_slots(alloc),
+            history: History::new(alloc, 0),
+        })
     }
 
     /// Drains a worker into its log, up to the last step.
@@ -252,24 +230,18 @@ impl Store {
         let mut tenants = Tenants::new(self.alloc);
         tenants.add(7, 8)?;
         let slots = &mut self.slots;
-        match recover_store(self.alloc, &mut self.logs, slots, &tenants, &mut NoWatch) {
-            Ok(store) => {
-                self.history = History::new(self.alloc, store.recovered.resume);
-                Ok(store.recovered)
-            }
-            Err(e) => Err(e.refusal()),
-        }
+        let store = recover_store(self.alloc, &mut self.logs, slots, &tenants, &mut NoWatch);
+        let store = store.map_err(|e| e.refusal())?;
+        self.history = History::new(self.alloc, store.recovered.resume);
+        Ok(store.recovered)
     }
 
     /// How many batches a worker's log has, once all were opened.
     pub fn batches(&mut self, worker: u8) -> Result<usize, Refusal> {
-        match open_logs(self.alloc, &mut self.logs, &[None, None], &mut NoWatch) {
-            Ok(chains) => {
-                let front = chains.fronts.get(usize::from(worker));
-                Ok(front.map_or(0, |front| front.batches.len()))
-            }
-            Err(e) => Err(e.refusal),
-        }
+        let chains = open_logs(self.alloc, &mut self.logs, &[None, None], &mut NoWatch);
+        let chains = chains.map_err(|e| e.refusal)?;
+        let front = chains.fronts.get(usize::from(worker));
+        Ok(front.map_or(0, |front| front.batches.len()))
     }
 }
 

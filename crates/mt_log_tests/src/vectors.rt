@@ -44,17 +44,12 @@ fn empty_disk(alloc: Global) -> MemDisk {
 }
 
 fn created(disk: MemDisk) -> Made {
-    match LogFile::create(disk, 0, 1) {
-        Ok(log) => Ok(log),
-        Err((_, disk)) => Err((disk, Told::Device)),
-    }
+    LogFile::create(disk, 0, 1).map_err(|(_, disk)| (disk, Told::Device))
 }
 
 fn opened_log(alloc: Global, disk: MemDisk) -> Made {
-    match LogFile::open(alloc, disk) {
-        Ok((log, _front)) => Ok(log),
-        Err(fault) => Err(not_opened(fault)),
-    }
+    let (log, _front) = LogFile::open(alloc, disk).map_err(|fault| not_opened(fault))?;
+    Ok(log)
 }
 
 // What is told of a log that is opened again.
@@ -114,18 +109,13 @@ fn the_vector_is_written_and_read(rt: HostRuntime) -> Result<(), Fail> {
 
 // The first batch of the vector, and this byte in the place of the next gate.
 fn one_batch(alloc: Global, vector: [u8; 85], gate: u8) -> Result<Vec<u8>, AllocError> {
-    let (front, _) = vector.split_at(54);
-    let mut image = front.to_vec(alloc)?;
-    image.push(gate)?;
-    Ok(image)
+    [vector.split_at(54).0, &[gate]].as_slice().concat(alloc)
 }
 
 // The same, and the batch that changes a column behind it.
 fn two_batches(alloc: Global, vector: [u8; 85]) -> Result<Vec<u8>, AllocError> {
-    let mut image = one_batch(alloc, vector, 1)?;
-    image.extend_from_slice(&CHANGED)?;
-    image.push(0)?;
-    Ok(image)
+    let front = vector.split_at(54).0;
+    [front, &[1], &CHANGED, &[0]].as_slice().concat(alloc)
 }
 
 // Appends a put over the row at step 14 to the log of a disk, up to 15.
@@ -175,7 +165,7 @@ fn a_log_of_format_1_is_read_and_goes_on(rt: HostRuntime) -> Result<(), Fail> {
 #[test]
 fn formats_are_told_apart(rt: HostRuntime) -> Result<(), Fail> {
     let alloc = rt.alloc();
-    for (version, want) in [
+    for &(version, want) in &[
         (0, Told::Bad(0, 0)),
         (1, Told::Front(9, 2)),
         (2, Told::Bad(0, 8)),
@@ -185,7 +175,7 @@ fn formats_are_told_apart(rt: HostRuntime) -> Result<(), Fail> {
         assert!(rt; told == want, "version {version}");
     }
     let two = two_batches(alloc, old_vector())?;
-    for (kind, want) in [(2, Told::Front(15, 2)), (0, Told::Bad(0, 54))] {
+    for &(kind, want) in &[(2, Told::Front(15, 2)), (0, Told::Bad(0, 54))] {
         assert!(rt; with_byte(alloc, &two, 59, kind)? == want, "kind {kind}");
     }
     Ok(())
@@ -324,19 +314,15 @@ fn each_prefix_and_changed_byte_is_told_for_what_it_is(rt: HostRuntime) -> Resul
 
 // A log of one batch up to step 6, with the removal of a key of this many bytes.
 fn with_key(alloc: Global, key: u8) -> Result<Vec<u8>, AllocError> {
-    let (front, _) = VECTOR.split_at(46);
-    let mut image = front.to_vec(alloc)?;
-    if let Some(body) = image.get_mut(11) {
-        *body = 1;
-    }
+    let mut vector = VECTOR;
     // The body has 36 bytes and those of the key.
-    if let Some(body) = image.get_mut(12) {
-        *body = key.wrapping_add(36);
-    }
-    image.extend_from_slice(&[0, key])?;
-    image.extend_from_slice(&Vec::from_elem(alloc, b'k', usize::from(key))?)?;
-    image.extend_from_slice(&[0, 0])?;
-    Ok(image)
+    vector[11] = 1;
+    vector[12] = key.wrapping_add(36);
+    let (front, bytes) = (
+        vector.split_at(46).0,
+        Vec::from_elem(alloc, b'k', usize::from(key))?,
+    );
+    [front, &[0, key], &bytes, &[0, 0]].as_slice().concat(alloc)
 }
 
 #[test]
@@ -370,9 +356,7 @@ fn made_without_records(alloc: Global, disk: MemDisk) -> Made {
 }
 
 #[test]
-fn where_memory_is_there_no_batch_and_no_length_is_told_memory(
-    rt: HostRuntime,
-) -> Result<(), Fail> {
+fn no_batch_and_no_length_is_told_memory(rt: HostRuntime) -> Result<(), Fail> {
     let alloc = rt.alloc();
     let log = made_without_records(alloc, empty_disk(alloc));
     assert!(rt; opened_again(alloc, log).1 == Told::Front(3, 1));
