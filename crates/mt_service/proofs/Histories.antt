@@ -146,14 +146,14 @@ module _ (L J R : Type 0) {D : Type 0} (is_honest : D → Bool) (state : D → D
 
   -- all that the sessions of these workers were told stands in one history from the state that the first clerk has seen, with all that a turner did
   pub one_history : {G : Type 0} (calls : G → DigestCall → G → Type 0) (digests : G) (tenants : List TenantQuota) (one turner logs : Clerk L J) (begun : List Worker) (served : List (Served Worker))
-      (answers workers log_count : ℕ) → IsWhole (λ (c : Clerk L J). c.mark) (one ∷ turner ∷ logs ∷ flat_map clerks_in served) answers
+      (answers workers log_count next : ℕ) → IsWhole (λ (c : Clerk L J). c.mark) (one ∷ turner ∷ logs ∷ flat_map clerks_in served) answers
       → AllZip (IsServed (λ (old : Worker) right (new : Worker). IsSession (AsksBook is_honest state failures was_refused) right old.caller new.caller)) begun served
       → length begun ≡ workers → EachAt begun (IsNewWorker log_count tenants)
-      → (made : Turning (Clerk L J) (SharedLogs L J R D) G) → IsNewTurner log_count digests made → (desk : Scanner (Clerk L J)) (left : SharedLogs L J R D)
+      → (made : Turning (Clerk L J) (SharedLogs L J R D) G) → IsNewTurner log_count next digests made → (desk : Scanner (Clerk L J)) (left : SharedLogs L J R D)
       → Leaves acts is_honest state failures (turns is_honest state failures was_refused) logs_of calls tenants made desk left → turner ≡ desk.desk → logs ≡ left.book.clerk
       → answers ≡ desk.counted + answers_in served
-      → (first : StateView) → one.mark.log ≡ first ∷ [] → one.mark.made ≡ 0 → HaveOneHistory L J R is_honest state failures was_refused calls digests tenants workers log_count first
-  one_history calls digests tenants one turner logs begun served answers workers log_count w z many new made fresh desk left turned same_clerk same_logs shares first is none =
+      → (first : StateView) → one.mark.log ≡ first ∷ [] → one.mark.made ≡ 0 → HaveOneHistory L J R is_honest state failures was_refused calls digests tenants workers log_count next first
+  one_history calls digests tenants one turner logs begun served answers workers log_count next w z many new made fresh desk left turned same_clerk same_logs shares first is none =
       let whole = w.first ∷ w.log in
       let P : Clerk L J → Type 0 = SeesFront whole in
       let after_one = tail P one (turner ∷ logs ∷ flat_map clerks_in served) w.seen in
@@ -163,7 +163,7 @@ module _ (L J R : Type 0) {D : Type 0} (is_honest : D → Bool) (state : D → D
       let logs_front : LogsSeeFront whole left = subst P same_logs (head P logs (flat_map clerks_in served) after_turner) in
       let all = one_run (λ k. None) w.first w.log w.legal (no_told w.first w.log) in
       let same : w.first ≡ first = head_is first w.first w.log one.mark.log is w.seen.0 in
-      subst (λ (s : StateView). HaveOneHistory L J R is_honest state failures was_refused calls digests tenants workers log_count s) same (record {
+      subst (λ (s : StateView). HaveOneHistory L J R is_honest state failures was_refused calls digests tenants workers log_count next s) same (record {
         log = w.log;
         legal = w.legal;
         run = all.run;

@@ -106,14 +106,13 @@ module _ {K : Type 0} (does : K → Turn → K → Type 0) (Front : K → Type 0
 
   -- ---- the parts of a turn
 
-  module _ {G : Type 0} (calls : G → DigestCall → G → Type 0) (count : ℕ) where
-    pub begins_inside : (closed : ℕ) (old : K) (was : G) (new : K) (is : G) → Begins does calls count closed old was new is → Front new
-        → Begins Inside calls count closed old was new is × Front old
+  module _ {G : Type 0} (calls : G → DigestCall → G → Type 0) (count generation : ℕ) where
+    pub begins_inside : (closed : ℕ) (old : K) (was : G) (new : K) (is : G) → Begins does calls count generation closed old was new is → Front new
+        → Begins Inside calls count generation closed old was new is × Front old
     begins_inside closed old was new is b front =
-        let begun = begun_inside b.generation count old new (Ok tt) b.then.0 front in (
+        let begun = begun_inside generation count old new (Ok tt) b.then.0 front in (
           record {
-            generation = b.generation;
-            next = next_inside count old (Ok b.generation) b.next begun.1;
+            next = next_inside count old (Ok generation) b.next begun.1;
             cleared = b.cleared;
             clears = b.clears;
             then = (begun.0, b.then.1, b.then.2);
@@ -121,16 +120,18 @@ module _ {K : Type 0} (does : K → Turn → K → Type 0) (Front : K → Type 0
           begun.1,
         )
 
-    at_logs_inside : (refusal : Refusal) (old : K) (was : G) (new : K) (is : G) → StopsAtLogs does calls count refusal old was new is → Front new
-        → StopsAtLogs Inside calls count refusal old was new is × Front old
-    at_logs_inside refusal old was new is (inl (next, same, kept)) front =
+    at_logs_inside : (refusal : Refusal) (old : K) (was : G) (new : K) (is : G) → StopsAtLogs does calls count generation refusal old was new is → Front new
+        → StopsAtLogs Inside calls count generation refusal old was new is × Front old
+    at_logs_inside refusal old was new is (inl (inl next, same, kept)) front =
         let there = subst Front same front in
-        (inl (next_inside count old (Err refusal) next there, same, kept), there)
+        (inl (inl (next_inside count old (Err refusal) next there), same, kept), there)
+    at_logs_inside refusal old was new is (inl (inr (which, other, next, differs), same, kept)) front =
+        let there = subst Front same front in
+        (inl (inr (which, other, next_inside count old (Ok other) next there, differs), same, kept), there)
     at_logs_inside refusal old was new is (inr b) front =
-        let begun = begun_inside b.generation count old new (Err refusal) b.then.0 front in (
+        let begun = begun_inside generation count old new (Err refusal) b.then.0 front in (
           inr (record {
-            generation = b.generation;
-            next = next_inside count old (Ok b.generation) b.next begun.1;
+            next = next_inside count old (Ok generation) b.next begun.1;
             cleared = b.cleared;
             clears = b.clears;
             then = (begun.0, b.then.1);
@@ -138,16 +139,15 @@ module _ {K : Type 0} (does : K → Turn → K → Type 0) (Front : K → Type 0
           begun.1,
         )
 
-    at_digests_inside : (g : ℕ) (refusal : Refusal) (old : K) (was : G) (new : K) (is : G) → StopsAtDigests does calls count g refusal old was new is → Front new
-        → StopsAtDigests Inside calls count g refusal old was new is × Front old
-    at_digests_inside g refusal old was new is (inl (next, clears, same)) front =
+    at_digests_inside : (g : ℕ) (refusal : Refusal) (old : K) (was : G) (new : K) (is : G) → StopsAtDigests does calls count generation g refusal old was new is → Front new
+        → StopsAtDigests Inside calls count generation g refusal old was new is × Front old
+    at_digests_inside g refusal old was new is (inl (which, next, clears, same)) front =
         let there = subst Front same front in
-        (inl (next_inside count old (Ok g) next there, clears, same), there)
+        (inl (which, next_inside count old (Ok generation) next there, clears, same), there)
     at_digests_inside g refusal old was new is (inr b) front =
-        let begun = begun_inside b.generation count old new (Ok tt) b.then.0 front in (
+        let begun = begun_inside generation count old new (Ok tt) b.then.0 front in (
           inr (record {
-            generation = b.generation;
-            next = next_inside count old (Ok b.generation) b.next begun.1;
+            next = next_inside count old (Ok generation) b.next begun.1;
             cleared = b.cleared;
             clears = b.clears;
             then = (begun.0, b.then.1, b.then.2);
@@ -155,8 +155,8 @@ module _ {K : Type 0} (does : K → Turn → K → Type 0) (Front : K → Type 0
           begun.1,
         )
 
-    pub stops_beginning_inside : (stop : TurnStop) (old : K) (was : G) (new : K) (is : G) → StopsBeginning does calls count stop old was new is → Front new
-        → StopsBeginning Inside calls count stop old was new is × Front old
+    pub stops_beginning_inside : (stop : TurnStop) (old : K) (was : G) (new : K) (is : G) → StopsBeginning does calls count generation stop old was new is → Front new
+        → StopsBeginning Inside calls count generation stop old was new is × Front old
     stops_beginning_inside (Logs refusal) old was new is s front = at_logs_inside refusal old was new is s front
     stops_beginning_inside (Digest (OfLogs g) refusal) old was new is s front = at_digests_inside g refusal old was new is s front
     stops_beginning_inside (Digest (OfSlot slot) refusal) old was new is s front = absurd s

@@ -73,18 +73,29 @@ module _ {D : Type 0} (is_honest : D → Bool) (state : D → DiskState) (failur
             ]
       ]
 
+  -- so it is of a log that is at this generation then, or at another one
+  goes_front : (log generation mark : ℕ) (old new : Seen) (look : Look) (seen : Seen) → Adds (Acted (look_period look)) old seen → (before after : StoreLog D) → worker_of before ≡ log
+      → BringsUpAndBegins is_honest state failures gives_batch look.steps generation mark before after seen new → IsPrefix old.log new.log
+  goes_front log generation mark old new look seen looked before after whose does =
+      begins_front log generation mark old new (record { look = look; seen = seen; looked = looked; turned = record { before = before; after = after; whose = whose; does = does } })
+
   pub any_front : (old : Seen) (turn : Turn) (new : Seen) → DoesShared is_honest state failures was_refused old turn new → IsPrefix old.log new.log
   any_front old (BroughtUp log told) new d = turn_front is_honest state failures was_refused log told old new d
-  any_front old (BegunNext log generation (Ok mark)) new u = begins_front log generation mark old new u
+  any_front old (BegunNext log generation (Ok mark)) new u =
+      goes_front log generation mark old new u.look u.seen u.looked u.turned.before u.turned.after u.turned.whose u.turned.does.0
   any_front old (BegunNext log generation (Err refusal)) new (inl (elsewhere, same)) = same_front old new same
   any_front old (BegunNext log generation (Err refusal)) new (inr u) =
       let t = u.turned in
-      fails_front log generation t.does.refusal old new (record {
+      ⊎_elim
+      (λ failed.
+      fails_front log generation failed.refusal old new (record {
         look = u.look;
         seen = u.seen;
         looked = u.looked;
-        turned = record { before = t.before; after = t.after; whose = t.whose; does = t.does.fails };
-      })
+        turned = record { before = t.before; after = t.after; whose = t.whose; does = failed.fails };
+      }))
+      (λ other. goes_front log generation other.1.0 old new u.look u.seen u.looked t.before t.after t.whose other.1.1)
+      t.does
   any_front old (GivenUp log (Ok u)) new d = same_front old new d.1
   any_front old (GivenUp log (Err refusal)) new d = same_front old new d.1
   any_front old (Told log (Ok told)) new d = same_front old new d.1

@@ -12,12 +12,12 @@ use Rattle.mt_service.specs.{Turning.{Turning, ComesTo, MakesTurn, TellsTurn, Fi
 
 module _ {S K D G : Type 0} (does : S → Period → S → Type 0) (is_honest : D → Bool) (state : D → DiskState) (failures : D → ℕ) (keeps : K → Turn → K → Type 0) (count : K → ℕ) (calls : G → DigestCall → G → Type 0) (tenants : List TenantQuota) where
   -- a turn that was begun is whole or stopped
-  pub comes : (worker logs : ℕ) (numbers : List ℕ) (r : Result (StoreSlots D) (TurnStop × StoreSlots D)) (new : StoreSlots D → Parts K S D G) (old : Parts K S D G)
-      → IfOk r (λ left. WritesTurn keeps does worker is_honest state failures calls logs numbers old (new left))
-      → IfErr r (λ e. StopsTurn keeps does worker is_honest state failures calls logs numbers e.0 old (new e.1))
-      → ComesTo does is_honest state failures keeps count calls tenants worker logs numbers r new old
-  comes worker logs numbers (Ok left) new old ok err = ok
-  comes worker logs numbers (Err e) new old ok err = err
+  pub comes : (worker logs generation : ℕ) (numbers : List ℕ) (r : Result (StoreSlots D) (TurnStop × StoreSlots D)) (new : StoreSlots D → Parts K S D G) (old : Parts K S D G)
+      → IfOk r (λ left. WritesTurn keeps does worker is_honest state failures calls logs generation numbers old (new left))
+      → IfErr r (λ e. StopsTurn keeps does worker is_honest state failures calls logs generation numbers e.0 old (new e.1))
+      → ComesTo does is_honest state failures keeps count calls tenants worker logs generation numbers r new old
+  comes worker logs generation numbers (Ok left) new old ok err = ok
+  comes worker logs generation numbers (Err e) new old ok err = err
 
   -- and so it is told
   pub told : (due : DueTurn D) (old new : Turning S K G) (r : Result (StoreSlots D) (TurnStop × StoreSlots D))

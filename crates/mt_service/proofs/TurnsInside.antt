@@ -21,13 +21,13 @@ module _ {S K D G : Type 0} (does : S → Period → S → Type 0) (is_honest : 
 
   -- ---- a turn, whole or stopped
 
-  module _ (worker count : ℕ) (tenants : List ℕ) where
-    writes_inside : (told : Result (Unit {0}) TurnStop) (old new : Parts K S D G) → WritesAnd keeps does worker is_honest state failures calls count tenants told old new
+  module _ (worker count generation : ℕ) (tenants : List ℕ) where
+    writes_inside : (told : Result (Unit {0}) TurnStop) (old new : Parts K S D G) → WritesAnd keeps does worker is_honest state failures calls count generation tenants told old new
         → Front new.desk.desk → LogsFront new.logs
-        → WritesAnd LogsInside Inside worker is_honest state failures calls count tenants told old new × Front old.desk.desk × LogsFront old.logs
+        → WritesAnd LogsInside Inside worker is_honest state failures calls count generation tenants told old new × Front old.desk.desk × LogsFront old.logs
     writes_inside told old new w front logs_front =
-        let ends = ends_inside keeps LogsFront logs_before calls count new.slots.owed w.closed w.begun w.kept new.logs new.digests told w.ends logs_front in
-        let begins = begins_inside keeps LogsFront logs_before calls count w.closed old.logs old.digests w.begun w.before w.begins ends.1 in
+        let ends = ends_inside keeps LogsFront logs_before calls count generation new.slots.owed w.closed w.begun w.kept new.logs new.digests told w.ends logs_front in
+        let begins = begins_inside keeps LogsFront logs_before calls count generation w.closed old.logs old.digests w.begun w.before w.begins ends.1 in
         let writes = slot_inside does Front before worker is_honest state failures calls tenants old.desk old.slots w.before new.desk new.slots w.kept w.writes front in (
           record {
             closed = w.closed;
@@ -42,13 +42,13 @@ module _ {S K D G : Type 0} (does : S → Period → S → Type 0) (is_honest : 
           begins.1,
         )
 
-    stops_inside : (stop : TurnStop) (old new : Parts K S D G) → StopsTurn keeps does worker is_honest state failures calls count tenants stop old new → Front new.desk.desk → LogsFront new.logs
-        → StopsTurn LogsInside Inside worker is_honest state failures calls count tenants stop old new × Front old.desk.desk × LogsFront old.logs
+    stops_inside : (stop : TurnStop) (old new : Parts K S D G) → StopsTurn keeps does worker is_honest state failures calls count generation tenants stop old new → Front new.desk.desk → LogsFront new.logs
+        → StopsTurn LogsInside Inside worker is_honest state failures calls count generation tenants stop old new × Front old.desk.desk × LogsFront old.logs
     stops_inside stop old new (inl s) front logs_front =
-        let begins = stops_beginning_inside keeps LogsFront logs_before calls count stop old.logs old.digests new.logs new.digests s.stops logs_front in
+        let begins = stops_beginning_inside keeps LogsFront logs_before calls count generation stop old.logs old.digests new.logs new.digests s.stops logs_front in
         (inl (record { stops = begins.0; same = s.same }), subst Front (ap (λ (p : Parts K S D G). p.desk.desk) s.same) front, begins.1)
     stops_inside stop old new (inr (inl s)) front logs_front =
-        let begins = begins_inside keeps LogsFront logs_before calls count s.closed old.logs old.digests new.logs s.before s.begins logs_front in
+        let begins = begins_inside keeps LogsFront logs_before calls count generation s.closed old.logs old.digests new.logs s.before s.begins logs_front in
         let stops = stops_slot_inside does Front before worker is_honest state failures calls tenants stop old.desk old.slots s.before new.desk new.slots new.digests s.stops front in
         (inr (inl (record { closed = s.closed; before = s.before; begins = begins.0; stops = stops.0 })), stops.1, begins.1)
     stops_inside stop old new (inr (inr w)) front logs_front =
@@ -56,12 +56,12 @@ module _ {S K D G : Type 0} (does : S → Period → S → Type 0) (is_honest : 
         (inr (inr here.0), here.1, here.2)
 
   module _ (count : K → ℕ) (tenants : List TenantQuota) where
-    comes_inside : (worker logs : ℕ) (numbers : List ℕ) (told : Result (StoreSlots D) (TurnStop × StoreSlots D)) (new : StoreSlots D → Parts K S D G) (old : Parts K S D G)
-        → ComesTo does is_honest state failures keeps count calls tenants worker logs numbers told new old
+    comes_inside : (worker logs generation : ℕ) (numbers : List ℕ) (told : Result (StoreSlots D) (TurnStop × StoreSlots D)) (new : StoreSlots D → Parts K S D G) (old : Parts K S D G)
+        → ComesTo does is_honest state failures keeps count calls tenants worker logs generation numbers told new old
         → ((left : StoreSlots D) → Front (new left).desk.desk) → ((left : StoreSlots D) → LogsFront (new left).logs)
-        → ComesTo Inside is_honest state failures LogsInside count calls tenants worker logs numbers told new old × Front old.desk.desk × LogsFront old.logs
-    comes_inside worker logs numbers (Ok left) new old c front logs_front = writes_inside worker logs numbers (Ok tt) old (new left) c (front left) (logs_front left)
-    comes_inside worker logs numbers (Err told) new old c front logs_front = stops_inside worker logs numbers told.0 old (new told.1) c (front told.1) (logs_front told.1)
+        → ComesTo Inside is_honest state failures LogsInside count calls tenants worker logs generation numbers told new old × Front old.desk.desk × LogsFront old.logs
+    comes_inside worker logs generation numbers (Ok left) new old c front logs_front = writes_inside worker logs generation numbers (Ok tt) old (new left) c (front left) (logs_front left)
+    comes_inside worker logs generation numbers (Err told) new old c front logs_front = stops_inside worker logs generation numbers told.0 old (new told.1) c (front told.1) (logs_front told.1)
 
     -- ---- a deed
 
@@ -69,7 +69,7 @@ module _ {S K D G : Type 0} (does : S → Period → S → Type 0) (is_honest : 
         → MakesTurn does is_honest state failures keeps count calls tenants due old told new → Front new.desk.desk → LogsFront new.logs
         → MakesTurn Inside is_honest state failures LogsInside count calls tenants due old told new × Front old.desk.desk × LogsFront old.logs
     makes_inside due old told new m front logs_front =
-        let came = comes_inside old.worker (count m.mid) m.numbers told (λ left. parts new.logs new.desk left new.digests) (parts m.mid old.desk due.slots old.digests) m.came (λ left. front) (λ left. logs_front) in
+        let came = comes_inside old.worker (count m.mid) old.next m.numbers told (λ left. parts new.logs new.desk left new.digests) (parts m.mid old.desk due.slots old.digests) m.came (λ left. front) (λ left. logs_front) in
         let settles = owed_inside keeps LogsFront logs_before count due.settled due.slots.owed old.logs (Ok m.number) m.mid m.settles came.2 in (
           record {
             mid = m.mid;

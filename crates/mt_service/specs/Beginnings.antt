@@ -17,11 +17,13 @@ pub record IsNewWorker {L J R D : Type 0} (logs : ℕ) (tenants : List TenantQuo
   pub counted : worker.caller.keeper.since.answers ≡ 0
   pub next : worker.caller.keeper.next ≡ 0
 
--- A turner is new. It has so many logs and these digests, and calls for worker 0. Its pass has seen no step and was given no answer. It has settled nothing by the clock.
-pub record IsNewTurner {L J R D G : Type 0} (logs : ℕ) (digests : G) (turner : Turning (Clerk L J) (SharedLogs L J R D) G) : Type 0 where
+-- A turner is new. It has so many logs and these digests, and calls for worker 0. Its pass has seen no step and was given no answer. It has settled nothing by the
+-- clock. Its next turn goes to this generation.
+pub record IsNewTurner {L J R D G : Type 0} (logs next : ℕ) (digests : G) (turner : Turning (Clerk L J) (SharedLogs L J R D) G) : Type 0 where
   pub logs_are : length turner.logs.logs.now ≡ logs
   pub digests_are : turner.digests ≡ digests
   pub worker : turner.worker ≡ 0
   pub seen : turner.desk.seen ≡ 0
   pub answered : turner.desk.counted ≡ 0
   pub settled : turner.settled ≡ 0
+  pub goes_to : turner.next ≡ next

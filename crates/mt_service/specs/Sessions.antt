@@ -12,7 +12,8 @@ use Rattle.mt_caller.specs.Exchanges.{CallerRelation}
 use Rattle.mt_session.specs.{Sessions.Transcript, Endings.AsksAtMostOne}
 use Rattle.mt_options.specs.declared.tenants.TenantQuota.{TenantQuota}
 use Rattle.mt_settle.specs.Turns.{Turn}
-use Rattle.mt_stored.specs.{declared.shared.SharedLogs.SharedLogs, Checkpoints.Scanner, Digests.DigestCall, Keeping.keeping, Shared.{LearnsSeen, DoesShared}}
+use Rattle.mt_store_logs.specs.declared.store_log.StoreLog.{StoreLog}
+use Rattle.mt_stored.specs.{NextTurns.IsNextTurn, declared.shared.SharedLogs.SharedLogs, Checkpoints.Scanner, Digests.DigestCall, Keeping.keeping, Shared.{LearnsSeen, DoesShared}}
 use Rattle.mt_service.specs.{declared.callers.DeskCaller.DeskCaller, declared.workers.SessionWorker.SessionWorker, Asking.{Asker, asker, AsksDesk}, Beginnings.{IsNewWorker, IsNewTurner}, Workers.EachAt, Turning.Turning, Turners.Leaves}
 
 -- a caller between two exchanges
@@ -86,10 +87,10 @@ LeavesOver is_honest state failures was_refused calls tenants history turner des
     Leaves (Within (SeesFront history) acts) is_honest state failures (Within (LogsSeeFront history) (turns is_honest state failures was_refused)) logs_of calls tenants turner desk logs
 
 -- One history from a state on. There is a run through it, and one order explains whichever there is. So many new workers, with so many logs, were led by sessions, and
--- each exchange of these was made over a beginning of the history. A new turner was led to what is left of it. Each of its periods, so each look and scan, was made over
+-- each exchange of these was made over a beginning of the history. A new turner, whose first turn goes to this generation, was led to what is left of it. Each of its periods, so each look and scan, was made over
 -- one too. These clerks added each state of the history but the first, and but a last look of each and of the clerk that began it. So many answers were taken as the
 -- passes came back with.
-pub record HaveOneHistory (L J R : Type 0) {D G : Type 0} (is_honest : D → Bool) (state : D → DiskState) (failures : D → ℕ) (was_refused : D → Bool) (calls : G → DigestCall → G → Type 0) (digests : G) (tenants : List TenantQuota) (workers log_count : ℕ) (first : StateView) : Type 0 where
+pub record HaveOneHistory (L J R : Type 0) {D G : Type 0} (is_honest : D → Bool) (state : D → DiskState) (failures : D → ℕ) (was_refused : D → Bool) (calls : G → DigestCall → G → Type 0) (digests : G) (tenants : List TenantQuota) (workers log_count next : ℕ) (first : StateView) : Type 0 where
   pub log : List StateView
   pub legal : Along Leads first log
   pub run : List Happening
@@ -101,10 +102,16 @@ pub record HaveOneHistory (L J R : Type 0) {D G : Type 0} (is_honest : D → Boo
   pub served : List (Served (SessionWorker L J R D))
   pub each : AllZip (IsServed (IsSessionOver is_honest state failures was_refused (first ∷ log))) begun served
   pub turner : Turning (Clerk L J) (SharedLogs L J R D) G
-  pub fresh : IsNewTurner log_count digests turner
+  pub fresh : IsNewTurner log_count next digests turner
   pub desk : Scanner (Clerk L J)
   pub logs : SharedLogs L J R D
   pub turned : LeavesOver is_honest state failures was_refused calls tenants (first ∷ log) turner desk logs
   pub seen : SeesFront (first ∷ log) desk.desk × LogsSeeFront (first ∷ log) logs
   pub added : length log ≡ sum_by (λ (c : Clerk L J). c.mark.made) (all_clerks desk.desk logs.book.clerk served) + length (all_clerks desk.desk logs.book.clerk served) + 1
   pub taken : (last_from first log).answers ≡ desk.counted + answers_in served
+
+-- so of these logs, which tell to which generation the turner's first turn goes
+abbrev pub HaveOneHistoryOf : (L J R : Type 0) {D G : Type 0} (is_honest : D → Bool) (state : D → DiskState) (failures : D → ℕ) (was_refused : D → Bool) (calls : G → DigestCall → G → Type 0) → G
+    → List TenantQuota → ℕ → List (StoreLog D) → StateView → Type 0
+HaveOneHistoryOf L J R is_honest state failures was_refused calls digests tenants workers logs first =
+    (next : ℕ) × IsNextTurn logs next × HaveOneHistory L J R is_honest state failures was_refused calls digests tenants workers (length logs) next first

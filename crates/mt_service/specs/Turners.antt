@@ -10,7 +10,7 @@ use Rattle.mt_service.specs.{declared.turners.Turner.Turner, Turning.{Turning, t
 
 -- a turner between two of its deeds
 abbrev pub turner_of : {L R S K G : Type 0} → Turner L R S K G → Turning S K G
-turner_of t = turning t.logs (scanner t.desk t.pass.seen t.pass.share.amount) t.pass.worker t.digests t.settled
+turner_of t = turning t.logs (scanner t.desk t.pass.seen t.pass.share.amount) t.pass.worker t.digests t.settled t.next
 
 -- a deed of a turner: it settled by the clock, or a turn that was due was made or stopped
 pub data TurnerDeed : Type 0 where

@@ -1,5 +1,5 @@
 -- What a turner does: the turns of all logs that are due, with a checkpoint of all tenants in each, and a Settle by the clock.
-use Rattle.std.specs.Prelude.{◌≡◌, ◌⊎◌, ℕ, ◌<◌, ◌≤◌, Bool, List, Option, Some, Result, Ok, Err, Vec}
+use Rattle.std.specs.Prelude.{◌≡◌, ◌⊎◌, ℕ, ◌+◌, ◌-◌, ◌^◌, ◌<◌, ◌≤◌, min, Bool, List, Option, Some, Result, Ok, Err, Vec}
 use Rattle.std.specs.Global.{Global}
 use Rattle.mt_rows.specs.{declared.refusal.Refusal.Refusal, declared.refusal.Refusal.TheVariants.{Device, Memory}}
 use Rattle.mt_disk.specs.Disk.{DiskState}
@@ -11,16 +11,23 @@ use Rattle.mt_stored.specs.{Checkpoints.{Scanner, Looks}, Digests.DigestCall, Wh
 use Rattle.mt_stored.specs.{declared.checks.Checks.Checks, declared.checks.DueTurn.DueTurn, declared.turns.TurnStop.TurnStop, declared.turns.TurnStop.TheVariants.Logs}
 use Rattle.mt_service.specs.Accounts.{AreRising}
 
--- a turner between two of its deeds: its logs, its desk with its pass, whose worker it is, its digests, and up to which step it has settled by the clock
+-- a turner between two of its deeds: its logs, its desk with its pass, whose worker it is, its digests, up to which step it has settled by the clock, and to which
+-- generation its next turn goes
 pub record Turning (S K G : Type 0) : Type 0 where
   pub logs : K
   pub desk : Scanner S
   pub worker : ℕ
   pub digests : G
   pub settled : ℕ
+  pub next : ℕ
 
-abbrev pub turning : {S K G : Type 0} → K → Scanner S → ℕ → G → ℕ → Turning S K G
-turning logs desk worker digests settled = record { logs = logs; desk = desk; worker = worker; digests = digests; settled = settled }
+abbrev pub turning : {S K G : Type 0} → K → Scanner S → ℕ → G → ℕ → ℕ → Turning S K G
+turning logs desk worker digests settled next = record { logs = logs; desk = desk; worker = worker; digests = digests; settled = settled; next = next }
+
+-- to which generation the next turn goes, by what is told of one to this generation: after a whole turn to the one after it, if one is left; else to the same
+abbrev pub next_after : {A B : Type 0} → ℕ → Result A B → ℕ
+next_after generation (Ok left) = min (generation + 1) (2 ^ 64 - 1)
+next_after generation (Err told) = generation
 
 module _ {K : Type 0} (keeps : K → Turn → K → Type 0) (count : K → ℕ) where
   -- a number up to which all logs are settled: what is known, if that is as much as is owed; else what a Settle of all logs tells
@@ -60,12 +67,12 @@ module _ {S K D G : Type 0} (does : S → Period → S → Type 0) (is_honest : 
       × ((refusal : Refusal) × (told.0 ≡ Logs refusal) × TellsReady keeps count tenants due.settled due.slots.owed old.logs (Err refusal) new.logs)
 
   -- a whole turn, or one that was begun and stopped
-  abbrev pub ComesTo : ℕ → ℕ → List ℕ → Result (StoreSlots D) (TurnStop × StoreSlots D) → (StoreSlots D → Parts K S D G) → Parts K S D G → Type 0
-  ComesTo worker logs numbers (Ok left) new old = WritesTurn keeps does worker is_honest state failures calls logs numbers old (new left)
-  ComesTo worker logs numbers (Err told) new old = StopsTurn keeps does worker is_honest state failures calls logs numbers told.0 old (new told.1)
+  abbrev pub ComesTo : ℕ → ℕ → ℕ → List ℕ → Result (StoreSlots D) (TurnStop × StoreSlots D) → (StoreSlots D → Parts K S D G) → Parts K S D G → Type 0
+  ComesTo worker logs generation numbers (Ok left) new old = WritesTurn keeps does worker is_honest state failures calls logs generation numbers old (new left)
+  ComesTo worker logs generation numbers (Err told) new old = StopsTurn keeps does worker is_honest state failures calls logs generation numbers told.0 old (new told.1)
 
-  -- The turn that is due was begun, after all was settled that is owed. Its checkpoint is one of all tenants, in the slots that were handed out. Its scans are of
-  -- the turner's own pass.
+  -- The turn that is due was begun, after all was settled that is owed. It went to the turner's next generation. Its checkpoint is one of all tenants, in the slots
+  -- that were handed out. Its scans are of the turner's own pass.
   pub record MakesTurn (due : DueTurn D) (old : Turning S K G) (told : Result (StoreSlots D) (TurnStop × StoreSlots D)) (new : Turning S K G) : Type 0 where
     pub mid : K
     pub numbers : List ℕ
@@ -73,8 +80,8 @@ module _ {S K D G : Type 0} (does : S → Period → S → Type 0) (is_honest : 
     pub owed : due.slots.owed ≤ number
     pub settles : SettlesOwed keeps count due.settled due.slots.owed old.logs (Ok number) mid
     pub rising : AreRising tenants numbers
-    pub came : ComesTo old.worker (count mid) numbers told (λ left. parts new.logs new.desk left new.digests) (parts mid old.desk due.slots old.digests)
-    pub same : new ≡ record old { logs = new.logs; desk = new.desk; digests = new.digests }
+    pub came : ComesTo old.worker (count mid) old.next numbers told (λ left. parts new.logs new.desk left new.digests) (parts mid old.desk due.slots old.digests)
+    pub same : new ≡ record old { logs = new.logs; desk = new.desk; digests = new.digests; next = next_after old.next told }
 
   -- what is told of the turn that is due
   abbrev pub TellsTurn : DueTurn D → Turning S K G → Result (StoreSlots D) (TurnStop × StoreSlots D) → Turning S K G → Type 0

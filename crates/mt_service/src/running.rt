@@ -6,7 +6,7 @@ ghost use Rattle.mt_book.specs.{declared.passes.Pass.Pass, declared.shared.Clerk
 ghost use Rattle.mt_crew.specs.{declared.crew.Served.Served, Servings.IsServed};
 ghost use Rattle.mt_streams.specs.Failures.{Failed, NoFewer};
 ghost use Rattle.mt_service.specs.{declared.workers.SessionWorker.SessionWorker, Faults.{IsOfWriting, IsOfServing, HasCause}};
-ghost use Rattle.mt_service.specs.{Workers.{every_of, bytes_of, number_of, IsWired, EachAt}, Beginnings.{IsNewWorker, IsNewTurner}, Sessions.{HaveOneHistory, pass_in, clerks_in}, Turners.{turner_of, Leaves}, Lines.{first_line, last_line, Begins, SaysAll, SaysPart}};
+ghost use Rattle.mt_service.specs.{Workers.{every_of, bytes_of, number_of, IsWired, EachAt}, Beginnings.{IsNewWorker, IsNewTurner}, Sessions.{HaveOneHistory, HaveOneHistoryOf, pass_in, clerks_in}, Turners.{turner_of, Leaves}, Lines.{first_line, last_line, Begins, SaysAll, SaysPart}};
 ghost use Rattle.mt_stored.specs.{Stores.IsSettled, Checks.IsAtFirst, Checkpoints.scanner};
 
 use crate::callers::DeskCaller;
@@ -81,7 +81,7 @@ where
     requires unasked { IsUnasked store.source.state }
     ensures ok { OnOk result (SaysAll (W.contents out.old) (W.contents out.new) options.now.sessions) }
     ensures settled { IfOk result (λ ending. IsSettled ending.store.source.state ending.store.logs.items) }
-    ensures history { OnOk result (HaveOneHistory L J R D.is_honest D.state D.failures D.was_refused G.does digests options.now.tenants.items options.now.workers (vec_len store.logs) store.source.state) }
+    ensures history { OnOk result (HaveOneHistoryOf L J R D.is_honest D.state D.failures D.was_refused G.does digests options.now.tenants.items options.now.workers store.logs.items store.source.state) }
     ensures err { OnErr result (SaysPart (W.contents out.old) (W.contents out.new) options.now.sessions) }
     ensures cause { IfErr result (HasCause (Failed (W.failures out.old) (W.failures out.new))) }
 {
@@ -115,16 +115,17 @@ fn serve_store<
 ) -> Result<(Totals, Store<D>), ServerFault>
     requires names { AreNames L.name L.parts J.name J.parts J.book names store.source.state }
     requires unasked { IsUnasked store.source.state }
-    ensures history { OnOk result (HaveOneHistory L J R D.is_honest D.state D.failures D.was_refused G.does digests options.now.tenants.items options.now.workers (vec_len store.logs) store.source.state) }
+    ensures history { OnOk result (HaveOneHistoryOf L J R D.is_honest D.state D.failures D.was_refused G.does digests options.now.tenants.items options.now.workers store.logs.items store.source.state) }
     ensures settled { IfOk result (λ served. IsSettled served.1.source.state served.1.logs.items) }
     ensures fault { IfErr result IsOfServing }
 {
+    let next = store.next_turn(rt);
     let (state, logs, slots) = store.into_parts();
     let logs = locked_logs(alloc, logs)?;
     let turns = Turns::new(checks_of(options, slots));
     let (book, mark) = begun::<L, J>(alloc, names, state)?;
     let served = serve_all(
-        rt, alloc, &book, mark, &logs, &turns, listener, options, digests,
+        rt, alloc, &book, mark, &logs, &turns, listener, options, digests, next,
     );
     let store = settled(rt, alloc, book, logs, turns.into_checks())?;
     Ok((served?, store))
@@ -226,8 +227,8 @@ pub(crate) fn say<W: Sink>(out: &mut W, line: &str) -> Result<(), ServerFault>
     }
 }
 
-// Serves the listener's connections by a crew, with a turner beside it, and adds up what they come back with. The last turn
-// is made when the crew has ended, if one is due then.
+// Serves the listener's connections by a crew, with a turner beside it, and adds up what they come back with. The turner's first
+// turn goes to this generation. The last turn is made when the crew has ended, if one is due then.
 fn serve_all<
     L: Ledger + Send + Sync,
     J: Naming + Send + Sync,
@@ -244,13 +245,14 @@ fn serve_all<
     listener: &TcpListener,
     options: &Options,
     digests: G,
+    next: u64,
 ) -> Result<Totals, ServerFault>
     requires parts { L.parts ≡ 65536 }
-    ensures history { OnOk result ((first : StateView) → mark.log ≡ first ∷ [] → mark.made ≡ 0 → HaveOneHistory L J R D.is_honest D.state D.failures D.was_refused G.does digests options.now.tenants.items options.now.workers (length logs.now) first) }
+    ensures history { OnOk result ((first : StateView) → mark.log ≡ first ∷ [] → mark.made ≡ 0 → HaveOneHistory L J R D.is_honest D.state D.failures D.was_refused G.does digests options.now.tenants.items options.now.workers (length logs.now) next first) }
     ensures fault { IfErr result IsOfServing }
 {
     let workers = workers_of(rt, alloc, book, logs, turns, options)?;
-    let turner = turner_of(rt, alloc, book, logs, options, digests)?;
+    let turner = turner_of(rt, alloc, book, logs, options, digests, next)?;
     let (parts, crew) = serve_beside(rt, alloc, turner, logs, turns, listener, options, workers);
     match crew {
         Ok(
@@ -330,7 +332,8 @@ fn opened<'a, L: Ledger, J: Naming, R: Wait + Clock, D: Disk + Drop>(
     Ok((pass, clerk, SharedLogs::new(rt, own, logs)))
 }
 
-// The turner of a store, with a pass of its own: that of worker 0, since a scan changes nothing.
+// The turner of a store, with a pass of its own: that of worker 0, since a scan changes nothing. Its first turn goes to this
+// generation.
 fn turner_of<'a, L: Ledger, J: Naming, R: Wait + Clock, D: Disk + Drop, G: Digests + Drop>(
     rt: &'a R,
     alloc: Global,
@@ -338,8 +341,9 @@ fn turner_of<'a, L: Ledger, J: Naming, R: Wait + Clock, D: Disk + Drop, G: Diges
     logs: &'a [Mutex<StoreLog<D>>],
     options: &'a Options,
     digests: G,
+    next: u64,
 ) -> Result<Turner<'a, L, R, Clerk<'a, L, J>, SharedLogs<'a, L, J, R, D>, G>, ServerFault>
-    ensures own { IfOk result (λ turner. IsNewTurner (length logs.now) digests (turner_of turner)) }
+    ensures own { IfOk result (λ turner. IsNewTurner (length logs.now) next digests (turner_of turner)) }
     ensures book { IfOk result (λ turner. (turner.desk.lock.now ≡ book.now) × (turner.logs.book.clerk.lock.now ≡ book.now)) }
     ensures logs { IfOk result (λ turner. turner.logs.logs.now ≡ logs.now) }
     ensures tenants { IfOk result (λ turner. turner.tenants.now ≡ options.now.tenants.items) }
@@ -354,6 +358,7 @@ fn turner_of<'a, L: Ledger, J: Naming, R: Wait + Clock, D: Disk + Drop, G: Diges
         logs,
         options.tenants.as_slice(),
         digests,
+        next,
     ))
 }
 

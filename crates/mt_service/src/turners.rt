@@ -2,7 +2,7 @@
 //! clock.
 
 ghost use Rattle.std.specs.Prelude.{◌≡◌, ◌<◌, IfSome, length};
-ghost use Rattle.mt_service.specs.Turning.{SettlesOwed, TellsReady};
+ghost use Rattle.mt_service.specs.Turning.{SettlesOwed, TellsReady, next_after};
 
 use crate::accounts::rising_tenants;
 use crate::turns::{Turns, Woken};
@@ -23,7 +23,7 @@ use std::sync::{Mutex, Wait};
 use std::time::Clock;
 
 /// Who makes a store's turns, with a pass of its own over any desk, over any logs, and with any digests. It also settles by
-/// the clock: so far all is settled up to a step.
+/// the clock: so far all is settled up to a step. Its next turn goes to a generation.
 #[derive(Drop)]
 pub struct Turner<
     'a,
@@ -41,6 +41,7 @@ pub struct Turner<
     tenants: &'a [TenantQuota],
     digests: G,
     settled: u64,
+    next: u64,
 }
 
 impl<'a, L: Ledger, R: Wait + Clock, D: Desk<L> + Drop, S: Logs + Drop, G: Digests + Drop> Turner<
@@ -51,7 +52,7 @@ impl<'a, L: Ledger, R: Wait + Clock, D: Desk<L> + Drop, S: Logs + Drop, G: Diges
     S,
     G,
 > {
-    /// A turner with this pass, which has settled nothing.
+    /// A turner with this pass, which has settled nothing. Its first turn goes to this generation.
     pub fn new(
         rt: &'a R,
         alloc: Global,
@@ -60,6 +61,7 @@ impl<'a, L: Ledger, R: Wait + Clock, D: Desk<L> + Drop, S: Logs + Drop, G: Diges
         logs: S,
         tenants: &'a [TenantQuota],
         digests: G,
+        next: u64,
     ) -> Self
         ensures desk { result.desk ≡ desk }
         ensures pass { result.pass ≡ pass }
@@ -67,6 +69,7 @@ impl<'a, L: Ledger, R: Wait + Clock, D: Desk<L> + Drop, S: Logs + Drop, G: Diges
         ensures tenants { result.tenants.now ≡ tenants.now }
         ensures digests { result.digests ≡ digests }
         ensures settled { result.settled ≡ 0 }
+        ensures next { result.next ≡ next }
     {
         Turner {
             rt,
@@ -77,6 +80,7 @@ impl<'a, L: Ledger, R: Wait + Clock, D: Desk<L> + Drop, S: Logs + Drop, G: Diges
             tenants,
             digests,
             settled: 0,
+            next,
         }
     }
 
@@ -155,8 +159,8 @@ impl<L: Ledger, R: Wait + Clock + Log, D: Desk<L> + Drop, S: Logs + Drop, G: Dig
     /// Makes the last turn, if one is due, over checks that nobody uses meanwhile. None is due then.
     pub fn finish<K: Disk + Drop>(&mut self, checks: &mut Checks<K>)
         ensures none { 0 < length self.old.tenants.now → ¬ IsDue checks.new }
-        ensures turn { 0 < length self.old.tenants.now → Finishes D.does K.is_honest K.state K.failures S.does S.logs G.does self.old.tenants.now checks.old (turning self.old.logs (scanner self.old.desk self.old.pass.seen self.old.pass.share.amount) self.old.pass.worker self.old.digests self.old.settled)
-            checks.new (turning self.new.logs (scanner self.new.desk self.new.pass.seen self.new.pass.share.amount) self.new.pass.worker self.new.digests self.new.settled) }
+        ensures turn { 0 < length self.old.tenants.now → Finishes D.does K.is_honest K.state K.failures S.does S.logs G.does self.old.tenants.now checks.old (turning self.old.logs (scanner self.old.desk self.old.pass.seen self.old.pass.share.amount) self.old.pass.worker self.old.digests self.old.settled self.old.next)
+            checks.new (turning self.new.logs (scanner self.new.desk self.new.pass.seen self.new.pass.share.amount) self.new.pass.worker self.new.digests self.new.settled self.new.next) }
     {
         let Some(due) = self.take_due(checks) else {
             return;
@@ -178,14 +182,15 @@ impl<L: Ledger, R: Wait + Clock + Log, D: Desk<L> + Drop, S: Logs + Drop, G: Dig
         checks.take_due()
     }
 
-    // Makes the turn that is due, with a checkpoint of all tenants. The slots come back in each case.
+    // Makes the turn that is due, with a checkpoint of all tenants. After a whole turn the next one goes to the generation after
+    // its own. The slots come back in each case.
     fn make_turn<K: Disk + Drop>(
         &mut self,
         due: DueTurn<K>,
     ) -> Result<StoreSlots<K>, (TurnStop, StoreSlots<K>)>
         requires some { 0 < length self.old.tenants.now }
-        ensures turn { TellsTurn D.does K.is_honest K.state K.failures S.does S.logs G.does self.old.tenants.now due (turning self.old.logs (scanner self.old.desk self.old.pass.seen self.old.pass.share.amount) self.old.pass.worker self.old.digests self.old.settled) result
-            (turning self.new.logs (scanner self.new.desk self.new.pass.seen self.new.pass.share.amount) self.new.pass.worker self.new.digests self.new.settled) }
+        ensures turn { TellsTurn D.does K.is_honest K.state K.failures S.does S.logs G.does self.old.tenants.now due (turning self.old.logs (scanner self.old.desk self.old.pass.seen self.old.pass.share.amount) self.old.pass.worker self.old.digests self.old.settled self.old.next) result
+            (turning self.new.logs (scanner self.new.desk self.new.pass.seen self.new.pass.share.amount) self.new.pass.worker self.new.digests self.new.settled self.new.next) }
         ensures tenants { self.new.tenants.now ≡ self.old.tenants.now }
     {
         let DueTurn { settled, slots } = due;
@@ -198,16 +203,21 @@ impl<L: Ledger, R: Wait + Clock + Log, D: Desk<L> + Drop, S: Logs + Drop, G: Dig
             slots.owed(),
         );
         match ready {
-            Ok(tenants) => write_turn(
-                self.rt,
-                self.alloc,
-                &mut self.desk,
-                &mut self.pass,
-                &mut self.logs,
-                tenants,
-                slots,
-                &mut self.digests,
-            ),
+            Ok(tenants) => {
+                let told = write_turn(
+                    self.rt,
+                    self.alloc,
+                    &mut self.desk,
+                    &mut self.pass,
+                    &mut self.logs,
+                    tenants,
+                    slots,
+                    &mut self.digests,
+                    self.next,
+                );
+                self.next = next_after(self.next, &told);
+                told
+            }
             Err(refusal) => Err((TurnStop::Logs(refusal), slots)),
         }
     }
@@ -215,8 +225,8 @@ impl<L: Ledger, R: Wait + Clock + Log, D: Desk<L> + Drop, S: Logs + Drop, G: Dig
     // Settles if a step was made since it last settled by the clock. What is refused waits for the next time; a log that
     // closes was warned of.
     fn settle_if_answered(&mut self)
-        ensures settles { SettlesByClock D.does S.does S.logs (turning self.old.logs (scanner self.old.desk self.old.pass.seen self.old.pass.share.amount) self.old.pass.worker self.old.digests self.old.settled)
-            (turning self.new.logs (scanner self.new.desk self.new.pass.seen self.new.pass.share.amount) self.new.pass.worker self.new.digests self.new.settled) }
+        ensures settles { SettlesByClock D.does S.does S.logs (turning self.old.logs (scanner self.old.desk self.old.pass.seen self.old.pass.share.amount) self.old.pass.worker self.old.digests self.old.settled self.old.next)
+            (turning self.new.logs (scanner self.new.desk self.new.pass.seen self.new.pass.share.amount) self.new.pass.worker self.new.digests self.new.settled self.new.next) }
         ensures tenants { self.new.tenants.now ≡ self.old.tenants.now }
     {
         let steps = self.desk.look(self.rt).steps;
@@ -234,6 +244,16 @@ impl<L: Ledger, R: Wait + Clock + Log, D: Desk<L> + Drop, S: Logs + Drop, G: Dig
             let warning = TurnWarning { stop, error };
             warn!(self.rt; "{warning}");
         }
+    }
+}
+
+// To which generation the next turn goes, by what is told of one to this generation.
+fn next_after<A: Drop, B: Drop>(generation: u64, told: &Result<A, B>) -> u64
+    ensures { result ≡ next_after generation told.now }
+{
+    match told {
+        Ok(_) => generation.saturating_add(1),
+        Err(_) => generation,
     }
 }
 

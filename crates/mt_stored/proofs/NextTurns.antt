@@ -2,7 +2,7 @@
 use Rattle.std.proofs.Common.{◌≡◌, ◌≢◌, ◌⊎◌, inl, inr, ⊎_elim, ℕ, zero, suc, ◌+◌, ◌<◌, ◌≤◌, Bool, true, false, List, [], ◌∷◌, ◌++◌, length, map, Some, Result, Ok, Err, refl, sym, ap, ◌∙◌, subst, arith}
 use Rattle.std.proofs.{lemmas.List.{length-map, length-set}, lemmas.Bool.{cases_eq, cases_lt, lt-ltb, ltb-true}, lemmas.Option.{same_Some, slice_get_within, slice_get-get_or, slice_get-map}}
 use Rattle.std.proofs.lemmas.List.Elements.{All-cons, All-nil, All-head, All-tail, All-contains}
-use Rattle.std.specs.{Prelude.{slice_get, slice_set, nat_lt}, List.{All, Contains}, Option.option_map}
+use Rattle.std.specs.{Prelude.{slice_get, slice_set, nat_lt}, List.{All, Contains}, Option.option_map, Result.result_unwrap_or}
 use Rattle.mt_rows.specs.{declared.record.Batch.Batch, declared.refusal.Refusal.Refusal}
 use Rattle.mt_disk.specs.Disk.{DiskState}
 use Rattle.mt_crashes.proofs.Invariant.{within_place}
@@ -10,8 +10,8 @@ use Rattle.mt_turns.specs.{declared.worker_log.WorkerLog.WorkerLog}
 use Rattle.mt_store_logs.specs.{declared.last_log.LastLog.LastLog, declared.store_log.StoreLog.StoreLog, declared.standing.Generations.Generations, Places.OnLast, Standing.TellsOf}
 use Rattle.mt_store_logs.specs.{LogTurns.{BringsUp, FailsToBringUp}, Turns.{LooksForNext, FailsToLook, ReopensLog, FailsToReopenLog, BeginsNextLog, FailsToBeginNextLog}}
 use Rattle.mt_settle.specs.{Turns.{Turn, BroughtUp, Told, Chain}, Settles.{turns_from, Settles}, Parts.{EachOf, BeginsOne, TellsBegun}}
-use Rattle.mt_settle.specs.Next.{AreOf, IsGreatest, IsNextOf, Tell, TellAll}
-use Rattle.mt_stored.specs.{declared.source.OwnState.OwnState, Begins.{BringsUpAndBegins, FailsToBringUpAndBegin}, Stores.{gives_own, DoesStore}, NextTurns.{IsNear, AreNear, AllTell, GoOnTo}}
+use Rattle.mt_settle.specs.Next.{AreOf, IsGreatest, IsNextOf, Tell, TellAll, TellsNext}
+use Rattle.mt_stored.specs.{declared.source.OwnState.OwnState, Begins.{BringsUpAndBegins, FailsToBringUpAndBegin}, Stores.{gives_own, DoesStore}, NextTurns.{IsNear, AreNear, AllTell, GoOnTo, IsNextTurn}}
 use Rattle.mt_stored.proofs.StoreTurns.{set_there, set_other}
 
 pub clash : true ≡ false → ⊥
@@ -539,3 +539,17 @@ module _ {D : Type 0} where
               let last = greatest.last in
               let same = log.2.last in
               omega (arith, e, up, last, same)
+
+-- to which generation the next turn goes, by what is told of it
+module _ {D S : Type 0} (is_honest : D → Bool) (state : D → DiskState) (failures : D → ℕ) (source : S → OwnState) (logs : S → List (StoreLog D)) (s : S) where
+  abbrev turns : S → Turn → S → Type 0
+  turns old turn new = DoesStore is_honest state failures turn (source old) (logs old) (source new) (logs new)
+
+  next_told : (told : Result ℕ Refusal) → TellsNext turns (length (logs s)) s told → IsNextTurn (logs s) (result_unwrap_or told 0)
+  next_told (Ok n) tells = inl (tells.0, all_tell is_honest state failures source logs n tells.0 s tells.1, tells.2)
+  next_told (Err e) (inl none) = inr (refl, inl none.0)
+  next_told (Err e) (inr (inl stops)) = absurd stops.refuses
+  next_told (Err e) (inr (inr spent)) = inr (refl, inr (spent.1, all_tell is_honest state failures source logs 0 spent.1 s spent.2, spent.3))
+
+  pub next_turn_told : (told : Result ℕ Refusal) (count : ℕ) → count ≡ length (logs s) → TellsNext turns count s told → IsNextTurn (logs s) (result_unwrap_or told 0)
+  next_turn_told told count is tells = next_told told (subst (λ (n : ℕ). TellsNext turns n s told) is tells)

@@ -1,15 +1,16 @@
 -- A turn over a source says the same of what the source shows.
-use Rattle.std.proofs.Common.{◌≡◌, inl, inr, ℕ, zero, suc, ◌-◌, Bool, Result, Ok, Err, refl, sym, subst, ap}
-use Rattle.std.specs.Prelude.{IfOk, IfErr, OnOk}
-use Rattle.mt_rows.specs.{declared.record.Batch.Batch, declared.refusal.Refusal.Refusal}
+use Rattle.std.proofs.Common.{◌≡◌, inl, inr, ⊎_elim, ℕ, zero, suc, ◌-◌, ◌<◌, Bool, true, false, Result, Ok, Err, refl, sym, subst, ap, arith}
+use Rattle.std.proofs.lemmas.Bool.{cases_eq, eqb-true, eqb-false}
+use Rattle.std.specs.Prelude.{IfOk, IfErr, OnOk, ◌==◌, if◌then◌else◌}
+use Rattle.mt_rows.specs.{declared.record.Batch.Batch, declared.refusal.Refusal.Refusal, declared.refusal.Refusal.TheVariants.LogCount}
 use Rattle.mt_disk.specs.Disk.{DiskState}
 use Rattle.mt_book.specs.{Happens.{Adds, Acted}, Periods.look_period, declared.desks.Look.Look}
 use Rattle.mt_store_logs.specs.{declared.store_log.StoreLog.StoreLog, declared.last_log.LastLog.LastLog, declared.flushing.Flushed.Flushed, Places.worker_of}
 use Rattle.mt_store_logs.specs.Flushes.{DrainsIn, FailsToDrain, DrainsShort, DrainsUpto, FailsInDrains, Flushes, FailsToFlush}
 use Rattle.mt_store_logs.specs.{LogTurns.{BringsUp, IsNotReopened, FailsToBringUp}, Turns.{FlushesLog, FailsToFlushLog, FlushesAndBegins, FailsToFlushAndBegin, GivesUpOlderLog, FailsToGiveUpOlderLog}}
 use Rattle.mt_store_logs.specs.FailedFiles.{failed_generation, was_refused_at, told_by}
-use Rattle.mt_settle.specs.Turns.{BroughtUp, BegunNext, GivenUp, mark_told}
-use Rattle.mt_stored.specs.{Begins.{FlushesOrBegins, FailsToFlushOrBegin, BringsUpAndBegins, FailsToBringUpAndBegin}, Shared.{Seen, gives_batch, DoesShared}}
+use Rattle.mt_settle.specs.{Turns.{Turn, BroughtUp, BegunNext, GivenUp, mark_told}, Parts.{EachOf, BeginsOne}}
+use Rattle.mt_stored.specs.{Begins.{FlushesOrBegins, FailsToFlushOrBegin, BringsUpAndBegins, FailsToBringUpAndBegin}, Shared.{Seen, Somewhere, gives_batch, gone_as, DoesShared}}
 
 module _ {D S : Type 0} (is_honest : D → Bool) (state : D → DiskState) (failures : D → ℕ) (from : S → S → ℕ → Batch → Type 0) (shown : S → Seen)
     (drained : (s t : S) (worker : ℕ) (batch : Batch) → from s t worker batch → gives_batch (shown s) (shown t) worker batch) where
@@ -139,21 +140,41 @@ module _ {D S : Type 0} (is_honest : D → Bool) (state : D → DiskState) (fail
       turned = record { before = before; after = after; whose = whose; does = record { refusal = e; fails = fails_to_bring_up look.steps e before after was is err; is = refl } };
     })
 
-    begun_so : (generation : ℕ) (r : Result Flushed Refusal)
-        → IfOk r (λ f. BringsUpAndBegins is_honest state failures from look.steps generation f.mark before after was is)
-        → IfErr r (λ e. FailsToBringUpAndBegin is_honest state failures from look.steps generation e before after was is)
-        → DoesShared is_honest state failures was_refused old (BegunNext log generation (mark_told (told_by refused r))) (shown is)
-    begun_so generation (Ok f) ok err = record {
+    -- a log that was brought up so far is at the generation then, or is not
+    abbrev at : ℕ
+    at = after.log.generation
+
+    begun_at : (generation : ℕ) (f : Flushed) → BringsUpAndBegins is_honest state failures from look.steps generation f.mark before after was is
+        → (flag : Bool) → (at == generation) ≡ flag
+        → DoesShared is_honest state failures was_refused old (BegunNext log generation (mark_told (if flag then Ok f else Err LogCount))) (shown is)
+    begun_at generation f ok true there = record {
       look = look;
       seen = shown was;
       looked = looked;
-      turned = record { before = before; after = after; whose = whose; does = brings_up_and_begins look.steps generation f.mark before after was is ok };
+      turned = record { before = before; after = after; whose = whose; does = (brings_up_and_begins look.steps generation f.mark before after was is ok, eqb-true at generation there) };
     }
+    begun_at generation f ok false other = inr (record {
+      look = look;
+      seen = shown was;
+      looked = looked;
+      turned = record {
+        before = before;
+        after = after;
+        whose = whose;
+        does = inr (refl, (f.mark, brings_up_and_begins look.steps generation f.mark before after was is ok), eqb-false at generation other);
+      };
+    })
+
+    begun_so : (generation : ℕ) (r : Result Flushed Refusal)
+        → IfOk r (λ f. BringsUpAndBegins is_honest state failures from look.steps generation f.mark before after was is)
+        → IfErr r (λ e. FailsToBringUpAndBegin is_honest state failures from look.steps generation e before after was is)
+        → DoesShared is_honest state failures was_refused old (BegunNext log generation (mark_told (gone_as at generation (told_by refused r)))) (shown is)
+    begun_so generation (Ok f) ok err = begun_at generation f ok (at == generation) refl
     begun_so generation (Err e) ok err = inr (record {
       look = look;
       seen = shown was;
       looked = looked;
-      turned = record { before = before; after = after; whose = whose; does = record { refusal = e; fails = fails_to_bring_up_and_begin look.steps generation e before after was is err; is = refl } };
+      turned = record { before = before; after = after; whose = whose; does = inl (record { refusal = e; fails = fails_to_bring_up_and_begin look.steps generation e before after was is err; is = refl }) };
     })
 
     -- and what is told of it
@@ -166,9 +187,9 @@ module _ {D S : Type 0} (is_honest : D → Bool) (state : D → DiskState) (fail
 
       pub begun : (generation : ℕ) → IfOk r (λ f. BringsUpAndBegins is_honest state failures from look.steps generation f.mark before after was is)
           → IfErr r (λ e. FailsToBringUpAndBegin is_honest state failures from look.steps generation e before after was is)
-          → DoesShared is_honest state failures was_refused old (BegunNext log generation (mark_told told)) (shown is)
+          → DoesShared is_honest state failures was_refused old (BegunNext log generation (mark_told (gone_as at generation told))) (shown is)
       begun generation ok err =
-          subst (λ (x : Result Flushed Refusal). DoesShared is_honest state failures was_refused old (BegunNext log generation (mark_told x)) (shown is)) (sym so)
+          subst (λ (x : Result Flushed Refusal). DoesShared is_honest state failures was_refused old (BegunNext log generation (mark_told (gone_as at generation x))) (shown is)) (sym so)
           (begun_so generation r ok err)
 
 -- what was flushed is told of the same worker
@@ -178,6 +199,32 @@ told_whose log b (Err e) ok = tt
 
 pub whose_is_told : (log : ℕ) (b : Bool) (r told : Result Flushed Refusal) → told ≡ told_by b r → IfOk r (λ f. f.worker ≡ log) → IfOk told (λ f. f.worker ≡ log)
 whose_is_told log b r told so ok = subst (λ (x : Result Flushed Refusal). IfOk x (λ f. f.worker ≡ log)) (sym so) (told_whose log b r ok)
+
+pub gone_whose : (log last generation : ℕ) (r : Result Flushed Refusal) → IfOk r (λ f. f.worker ≡ log) → IfOk (gone_as last generation r) (λ f. f.worker ≡ log)
+gone_whose log last generation (Err e) ok = tt
+gone_whose log last generation (Ok f) ok = by (last == generation)
+  where
+    by : (flag : Bool) → IfOk (if flag then Ok f else Err LogCount) (λ f. f.worker ≡ log)
+    by true = ok
+    by false = tt
+
+-- ---- each log goes to the generation of a turn
+
+module _ {D S : Type 0} (is_honest : D → Bool) (state : D → DiskState) (failures : D → ℕ) (was_refused : D → Bool) (seen : S → Seen) (generation : ℕ) where
+  abbrev does : S → Turn → S → Type 0
+  does s turn t = DoesShared is_honest state failures was_refused (seen s) turn (seen t)
+
+  pub each_goes : (count : ℕ) (old new : S) → EachOf (BeginsOne does generation) count old new → (log : ℕ) → log < count
+      → Somewhere (λ (before after : StoreLog D). after.log.generation ≡ generation) log
+  each_goes zero old new none log less = absurd (omega (arith, less))
+  each_goes (suc last) old new (mid, before, one) log less =
+      ⊎_elim
+      (λ (e : log ≡ last).
+      let turned = one.1.turned in
+      subst (λ (n : ℕ). Somewhere (λ (before after : StoreLog D). after.log.generation ≡ generation) n) (sym e)
+      (record { before = turned.before; after = turned.after; whose = turned.whose; does = turned.does.1 }))
+      (λ other. each_goes last old mid before log (omega (arith, less, other)))
+      (cases_eq log last)
 
 module _ {D : Type 0} (is_honest : D → Bool) (state : D → DiskState) (failures : D → ℕ) (was_refused : D → Bool) (log : ℕ) (before after : StoreLog D) (whose : worker_of before ≡ log) (seen : Seen) where
   given_up_so : (r : Result (Unit {0}) Refusal) → OnOk r (GivesUpOlderLog is_honest state failures before after)

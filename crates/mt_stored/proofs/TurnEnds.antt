@@ -220,32 +220,34 @@ module _ {D S : Type 0} (is_honest : D → Bool) (state : D → DiskState) (fail
 -- ---- a whole turn, and one that was stopped
 
 module _ {D S T K G : Type 0} (is_honest : D → Bool) (state : D → DiskState) (failures : D → ℕ) (source : S → OwnState) (logs : S → List (StoreLog D)) (g : ℕ)
-    (shows : T → Period → T → Type 0) (worker : ℕ) (keeps_rules : K → Bool) (found : K → DiskState) (errors : K → ℕ) (calls : G → DigestCall → G → Type 0) (tenants : List ℕ) (old new : Parts S T K G) where
+    (shows : T → Period → T → Type 0) (worker : ℕ) (keeps_rules : K → Bool) (found : K → DiskState) (errors : K → ℕ) (calls : G → DigestCall → G → Type 0) (h : ℕ) (tenants : List ℕ) (old new : Parts S T K G) where
   abbrev turns : S → Turn → S → Type 0
   turns was turn is = DoesStore is_honest state failures turn (source was) (logs was) (source is) (logs is)
 
   abbrev count : ℕ
   count = length (logs old.logs)
 
-  begun_gone : (closed : ℕ) (begun : S) (was is : G) → GoOnTo g (logs old.logs) → Begins turns calls count closed old.logs was begun is
+  begun_gone : (closed : ℕ) (begun : S) (was is : G) → GoOnTo g (logs old.logs) → Begins turns calls count h closed old.logs was begun is
       → Gone is_honest state failures source logs g count old.logs begun
-  begun_gone closed begun was is goes b = begun_all is_honest state failures source logs g b.generation old.logs begun goes b.next b.then.0
+  begun_gone closed begun was is goes b = begun_all is_honest state failures source logs g h old.logs begun goes b.next b.then.0
 
-  pub after_whole : GoOnTo g (logs old.logs) → WritesTurn turns shows worker keeps_rules found errors calls count tenants old new → GoOnTo (g + 1) (logs new.logs)
-  after_whole goes w =
-      ends_whole is_honest state failures source logs g calls old.logs w.begun new.logs w.kept new.digests new.slots.owed w.closed goes
-      (begun_gone w.closed w.begun old.digests w.before goes w.begins) w.ends
+  pub after_whole : GoOnTo g (logs old.logs) → WritesTurn turns shows worker keeps_rules found errors calls count h tenants old new → (h ≡ g) × GoOnTo (g + 1) (logs new.logs)
+  after_whole goes w = (
+    the_generation is_honest state failures source logs g h old.logs goes w.begins.next,
+    ends_whole is_honest state failures source logs g calls old.logs w.begun new.logs w.kept new.digests new.slots.owed w.closed goes
+        (begun_gone w.closed w.begun old.digests w.before goes w.begins) w.ends,
+  )
 
-  stopped_before : (stop : TurnStop) → GoOnTo g (logs old.logs) → StopsBeginning turns calls count stop old.logs old.digests new.logs new.digests → GoOnTo g (logs new.logs)
+  stopped_before : (stop : TurnStop) → GoOnTo g (logs old.logs) → StopsBeginning turns calls count h stop old.logs old.digests new.logs new.digests → GoOnTo g (logs new.logs)
   stopped_before (Logs e) goes (inl none) = same_goes is_honest state failures source logs g old.logs new.logs goes none.1
-  stopped_before (Logs e) goes (inr c) = begun_some is_honest state failures source logs g c.generation e old.logs new.logs goes c.next c.then.0
-  stopped_before (Digest (OfLogs h) e) goes (inl none) = same_goes is_honest state failures source logs g old.logs new.logs goes none.2
-  stopped_before (Digest (OfLogs h) e) goes (inr c) =
-      still g (logs old.logs) (logs new.logs) goes (begun_all is_honest state failures source logs g c.generation old.logs new.logs goes c.next c.then.0).all
-  stopped_before (Digest (OfSlot h) e) goes none = absurd none
+  stopped_before (Logs e) goes (inr c) = begun_some is_honest state failures source logs g h e old.logs new.logs goes c.next c.then.0
+  stopped_before (Digest (OfLogs k) e) goes (inl none) = same_goes is_honest state failures source logs g old.logs new.logs goes none.3
+  stopped_before (Digest (OfLogs k) e) goes (inr c) =
+      still g (logs old.logs) (logs new.logs) goes (begun_all is_honest state failures source logs g h old.logs new.logs goes c.next c.then.0).all
+  stopped_before (Digest (OfSlot k) e) goes none = absurd none
   stopped_before (Checkpoint c) goes none = absurd none
 
-  pub after_stopped : (stop : TurnStop) → GoOnTo g (logs old.logs) → StopsTurn turns shows worker keeps_rules found errors calls count tenants stop old new → GoOnTo g (logs new.logs)
+  pub after_stopped : (stop : TurnStop) → GoOnTo g (logs old.logs) → StopsTurn turns shows worker keeps_rules found errors calls count h tenants stop old new → GoOnTo g (logs new.logs)
   after_stopped stop goes (inl before) = stopped_before stop goes before.stops
   after_stopped stop goes (inr (inl w)) = still g (logs old.logs) (logs new.logs) goes (begun_gone w.closed new.logs old.digests w.before goes w.begins).all
   after_stopped stop goes (inr (inr w)) =

@@ -1,7 +1,7 @@
--- To which generation the next turn of a store goes that is owned alone.
-use Rattle.std.specs.Prelude.{◌≡◌, ◌⊎◌, ℕ, ◌+◌, ◌≤◌, false, List, length, Some, slice_get}
+-- To which generation the next turn of a store goes that is owned alone, and what its first turn goes to.
+use Rattle.std.specs.Prelude.{◌≡◌, ◌⊎◌, ℕ, ◌+◌, ◌-◌, ◌^◌, ◌≤◌, false, List, length, Some, slice_get}
 use Rattle.mt_store_logs.specs.{declared.store_log.StoreLog.StoreLog, declared.standing.Generations.Generations, Standing.TellsOf}
-use Rattle.mt_settle.specs.Next.{IsNextOf}
+use Rattle.mt_settle.specs.Next.{AreOf, IsNextOf}
 
 -- A log is of the generation before this one, or of this one, and then no later log is in doubt. The oldest one that may stand is no later than its last one.
 pub record IsNear {D : Type 0} (g : ℕ) (log : StoreLog D) : Type 0 where
@@ -21,3 +21,9 @@ pub record AllTell {D : Type 0} (logs : List (StoreLog D)) (told : List Generati
 pub record GoOnTo {D : Type 0} (g : ℕ) (logs : List (StoreLog D)) : Type 0 where
   pub near : AreNear g logs
   pub tell : (told : List Generations) → AllTell logs told → IsNextOf told g
+
+-- The generation to which the next turn of these logs goes, as all of them tell it. It is 0 if there are no logs, or if no generation is left.
+abbrev pub IsNextTurn : {D : Type 0} → List (StoreLog D) → ℕ → Type 0
+IsNextTurn logs next =
+    ((told : List Generations) × AllTell logs told × IsNextOf told next)
+    ⊎ ((next ≡ 0) × ((length logs ≡ 0) ⊎ ((told : List Generations) × AllTell logs told × AreOf (2 ^ 64 - 1) told)))

@@ -1,7 +1,7 @@
 -- The parts of a turn of all logs: they go to the generation that they tell, a checkpoint is written, all logs are settled, and the older logs are given up
 -- with their digests.
-use Rattle.std.specs.Prelude.{◌≡◌, ◌⊎◌, ℕ, ◌-◌, ◌<◌, ◌≤◌, Bool, List, Result, Ok, Err}
-use Rattle.mt_rows.specs.{declared.refusal.Refusal.Refusal, declared.refusal.Refusal.TheVariants.Device}
+use Rattle.std.specs.Prelude.{◌≡◌, ◌≢◌, ◌⊎◌, ℕ, ◌-◌, ◌<◌, ◌≤◌, Bool, List, Result, Ok, Err}
+use Rattle.mt_rows.specs.{declared.refusal.Refusal.Refusal, declared.refusal.Refusal.TheVariants.{Device, LogCount}}
 use Rattle.mt_disk.specs.Disk.{DiskState}
 use Rattle.mt_book.specs.Periods.{Period}
 use Rattle.mt_slots.specs.{declared.store_slots.StoreSlots.StoreSlots, Places.next_slot}
@@ -11,31 +11,35 @@ use Rattle.mt_stored.specs.{declared.turns.TurnStop.TurnStop, declared.turns.Tur
 
 -- ---- the logs go to a generation
 
-module _ {K G : Type 0} (turns : K → Turn → K → Type 0) (calls : G → DigestCall → G → Type 0) (count : ℕ) where
-  -- All logs told to which generation the next turn goes. The digests of its files were cleared, and then this was done.
-  pub record Clears (Then : ℕ → G → Type 0) (old : K) (was : G) : Type 0 where
-    pub generation : ℕ
+-- all logs told of another generation than this one, or a log told of none
+abbrev pub TellsOther : {K : Type 0} → (K → Turn → K → Type 0) → ℕ → ℕ → Refusal → K → Type 0
+TellsOther turns count generation refusal old =
+    TellsNext turns count old (Err refusal) ⊎ ((refusal ≡ LogCount) × (other : ℕ) × TellsNext turns count old (Ok other) × (other ≢ generation))
+
+module _ {K G : Type 0} (turns : K → Turn → K → Type 0) (calls : G → DigestCall → G → Type 0) (count generation : ℕ) where
+  -- All logs told that the next turn goes to this generation. The digests of its files were cleared, and then this was done.
+  pub record Clears (Then : G → Type 0) (old : K) (was : G) : Type 0 where
     pub next : TellsNext turns count old (Ok generation)
     pub cleared : G
     pub clears : calls was (ClearsLogs count generation (Ok tt)) cleared
-    pub then : Then generation cleared
+    pub then : Then cleared
 
   -- all logs went to that generation, and the digests of the logs before, which are closed then, were kept
   abbrev pub Begins : ℕ → K → G → K → G → Type 0
   Begins closed old was new is =
-      Clears (λ generation cleared. TellsBegun turns generation count old new (Ok tt) × (closed ≡ generation - 1) × calls cleared (KeepsLogs count closed (Ok tt)) is) old was
+      Clears (λ cleared. TellsBegun turns generation count old new (Ok tt) × (closed ≡ generation - 1) × calls cleared (KeepsLogs count closed (Ok tt)) is) old was
 
-  -- the logs told of no generation, and nothing was done; or not all went to it
+  -- the logs did not tell of this generation, and nothing was done; or not all went to it
   abbrev pub StopsAtLogs : Refusal → K → G → K → G → Type 0
   StopsAtLogs refusal old was new is =
-      (TellsNext turns count old (Err refusal) × (new ≡ old) × (is ≡ was))
-      ⊎ Clears (λ generation cleared. TellsBegun turns generation count old new (Err refusal) × (is ≡ cleared)) old was
+      (TellsOther turns count generation refusal old × (new ≡ old) × (is ≡ was))
+      ⊎ Clears (λ cleared. TellsBegun turns generation count old new (Err refusal) × (is ≡ cleared)) old was
 
   -- the digests of that generation were not cleared, and no log was touched; or all logs went to it, and those of the one before were not kept
   abbrev pub StopsAtDigests : ℕ → Refusal → K → G → K → G → Type 0
   StopsAtDigests g refusal old was new is =
-      (TellsNext turns count old (Ok g) × calls was (ClearsLogs count g (Err refusal)) is × (new ≡ old))
-      ⊎ Clears (λ generation cleared. TellsBegun turns generation count old new (Ok tt) × (g ≡ generation - 1) × calls cleared (KeepsLogs count g (Err refusal)) is) old was
+      ((g ≡ generation) × TellsNext turns count old (Ok generation) × calls was (ClearsLogs count generation (Err refusal)) is × (new ≡ old))
+      ⊎ Clears (λ cleared. TellsBegun turns generation count old new (Ok tt) × (g ≡ generation - 1) × calls cleared (KeepsLogs count g (Err refusal)) is) old was
 
   -- why not all was done
   abbrev pub StopsBeginning : TurnStop → K → G → K → G → Type 0

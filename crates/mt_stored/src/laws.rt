@@ -14,7 +14,8 @@ ghost use Rattle.mt_stored.specs.Checkpoints.{Scanner, BeginsWalk, AddsPages, St
 ghost use Rattle.mt_settle.specs.{Turns.Turn, Settles.Settles};
 ghost use Rattle.mt_store_logs.specs.declared.store_log.StoreLog.{StoreLog};
 ghost use Rattle.mt_stored.specs.{declared.source.OwnState.OwnState, Stores.{DoesStore, IsNewStore, IsRecoveredStore, IsSettled}, Keeping.turn_after};
-ghost use Rattle.mt_stored.specs.{declared.turns.TurnStop.TurnStop, NextTurns.GoOnTo, WholeTurns.{Parts, WritesTurn, StopsTurn}};
+ghost use Rattle.mt_stored.specs.{declared.turns.TurnStop.TurnStop, NextTurns.GoOnTo, TurnParts.Begins, WholeTurns.{Parts, WritesTurn, StopsTurn}};
+ghost use Rattle.mt_stored.specs.Shared.{Seen, Somewhere, DoesShared};
 
 use crate::digests::Digests;
 use mt_book::Desk;
@@ -39,12 +40,20 @@ pub fn a_turn_is_finished_before_the_next<L: Ledger, T: Desk<L>, D: Disk, K: Dis
         → IsNewStore D.is_honest D.state D.failures files bare accounts v logs slots → GoOnTo 1 logs }
     ensures recovered { (files : List (WorkerFiles D)) (found : StoreSlots D) (accounts : Accounts) (v : StateView) (logs : List (StoreLog D)) (slots : Option (StoreSlots D)) → 0 < length files
         → (up : IsRecoveredStore D.is_honest D.state D.failures files found accounts v logs slots) → GoOnTo (up.generation + 1) logs }
-    ensures whole { (source : S → OwnState) (logs : S → List (StoreLog D)) (g worker : ℕ) (tenants : List ℕ) (old new : Parts S T K G) → GoOnTo g (logs old.logs)
-        → WritesTurn (λ (s : S) (turn : Turn) (t : S). DoesStore D.is_honest D.state D.failures turn (source s) (logs s) (source t) (logs t)) T.does worker K.is_honest K.state K.failures G.does (length (logs old.logs)) tenants old new
-        → GoOnTo (g + 1) (logs new.logs) }
-    ensures stopped { (source : S → OwnState) (logs : S → List (StoreLog D)) (g worker : ℕ) (tenants : List ℕ) (stop : TurnStop) (old new : Parts S T K G) → GoOnTo g (logs old.logs)
-        → StopsTurn (λ (s : S) (turn : Turn) (t : S). DoesStore D.is_honest D.state D.failures turn (source s) (logs s) (source t) (logs t)) T.does worker K.is_honest K.state K.failures G.does (length (logs old.logs)) tenants stop old new
+    ensures whole { (source : S → OwnState) (logs : S → List (StoreLog D)) (g h worker : ℕ) (tenants : List ℕ) (old new : Parts S T K G) → GoOnTo g (logs old.logs)
+        → WritesTurn (λ (s : S) (turn : Turn) (t : S). DoesStore D.is_honest D.state D.failures turn (source s) (logs s) (source t) (logs t)) T.does worker K.is_honest K.state K.failures G.does (length (logs old.logs)) h tenants old new
+        → (h ≡ g) × GoOnTo (g + 1) (logs new.logs) }
+    ensures stopped { (source : S → OwnState) (logs : S → List (StoreLog D)) (g h worker : ℕ) (tenants : List ℕ) (stop : TurnStop) (old new : Parts S T K G) → GoOnTo g (logs old.logs)
+        → StopsTurn (λ (s : S) (turn : Turn) (t : S). DoesStore D.is_honest D.state D.failures turn (source s) (logs s) (source t) (logs t)) T.does worker K.is_honest K.state K.failures G.does (length (logs old.logs)) h tenants stop old new
         → GoOnTo g (logs new.logs) }
+{}
+
+/// Of whatever has logs behind locks: after all went to the generation of a turn, the log at each worker's place was seen at that
+/// generation, under its lock.
+pub fn each_log_goes_to_the_generation_of_a_turn<D: Disk, G: Digests, S>()
+    ensures { (seen : S → Seen) (count generation closed : ℕ) (old new : S) (was is : G) →
+        Begins (λ (s : S) (turn : Turn) (t : S). DoesShared D.is_honest D.state D.failures D.was_refused (seen s) turn (seen t)) G.does count generation closed old was new is →
+        (log : ℕ) → log < count → Somewhere (λ (before after : StoreLog D). after.log.generation ≡ generation) log }
 {}
 
 /// In a round over some logs each of them has its turn within as many turns as there are logs, wherever the round

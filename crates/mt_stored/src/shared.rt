@@ -2,7 +2,7 @@
 
 ghost use Rattle.std.specs.Prelude.{◌≡◌, ◌<◌, length, vec_len, IfOk, IfErr};
 ghost use Rattle.mt_store_logs.specs.Places.{worker_of};
-ghost use Rattle.mt_stored.specs.Shared.{IsElsewhere};
+ghost use Rattle.mt_stored.specs.Shared.{IsElsewhere, gone_as};
 
 use crate::beginning::bring_up_and_begin;
 use crate::changes::{LogChange, change_of};
@@ -25,7 +25,7 @@ use std::time::Clock;
 /// The logs of a book, at most 255, and a clerk that drains it into them. Others give turns too, so a turn says nothing of the
 /// next one. Of each it says that it was one of a log of that worker, and what it added to the book's history. It warns of a
 /// log that closes, and of one that is open again. A log at the place of another worker has no turn, and is refused by
-/// `LogCount`. If memory was refused to a log's disk, the refusal is `Memory`, and not `Device`.
+/// `LogCount`. So is one that is at another generation than it was to go to. If memory was refused to a log's disk, the refusal is `Memory`, and not `Device`.
 #[derive(Drop)]
 pub struct SharedLogs<'a, L: Ledger, J: Naming, R: Wait + Clock, D: Disk + Drop> {
     book: SharedBook<'a, L, J, R>,
@@ -92,7 +92,7 @@ impl<L: Ledger, J: Naming, C: Wait + Clock, D: Disk + Drop> Logs for SharedLogs<
         let told = bring_up_and_begin(alloc, &mut *own, &mut self.book, steps, generation);
         let file = own.failed_file();
         warn_of(rt, log, before, own.mark(), file);
-        file.tell(told)
+        gone_to(own, generation, file.tell(told))
     }
 
     fn give_up_older<R: Wait + Clock + Log>(&mut self, rt: &R, log: u8) -> Result<(), Refusal> {
@@ -134,6 +134,20 @@ fn lock_at<'a, D: Disk + Drop, R: Wait>(
         Ok(guard)
     } else {
         Err(Refusal::LogCount)
+    }
+}
+
+// What was told of a log that was to go to this generation. It is refused if the log is at another one.
+fn gone_to<D: Disk + Drop>(
+    log: &StoreLog<D>,
+    generation: u64,
+    told: Result<Flushed, Refusal>,
+) -> Result<Flushed, Refusal>
+    ensures { result ≡ gone_as log.now.log.generation generation told }
+{
+    match told {
+        Ok(_) if log.generation() != generation => Err(Refusal::LogCount),
+        _ => told,
     }
 }
 

@@ -15,7 +15,7 @@ use mt_core::State;
 use mt_disk::Disk;
 use mt_log_files::WorkerFiles;
 use mt_rows::{Refusal, Tenants};
-use mt_settle::{Logs, settle};
+use mt_settle::{Logs, next_generation, settle};
 use mt_slots::StoreSlots;
 use mt_store_logs::{
     Flushed, Generations, LogRefusal, NoWatch, RecoveredStore, StoreLog, StoreRefusal, Watch,
@@ -45,6 +45,7 @@ const NO_MEMORY: StoreRefusal = StoreRefusal::Logs(LogRefusal {
 
 impl<D: Disk + Drop> Store<D> {
     ghost use Rattle.mt_settle.specs.Settles.{StopsSettling};
+    ghost use Rattle.mt_stored.specs.NextTurns.{IsNextTurn};
     ghost use Rattle.mt_stored.specs.Stores.{IsNewStore, IsNotMade, IsRecoveredStore, IsNotRecoveredStore, IsSettled, DoesStore};
 
     /// A store that keeps nothing: a new state without logs.
@@ -183,6 +184,13 @@ impl<D: Disk + Drop> Store<D> {
             slots,
         } = self;
         (source.state, logs, slots)
+    }
+
+    /// The generation to which the next turn of all logs goes. It is 0 if there are no logs, or if no generation is left.
+    pub fn next_turn<R: Wait>(&self, rt: &R) -> u64
+        ensures { IsNextTurn self.now.logs.items result }
+    {
+        next_generation(rt, self).unwrap_or(0)
     }
 
     /// Settles for the last time: with Ok every log goes up to the last step that was made. A store without

@@ -1,7 +1,8 @@
 //! A turn of all logs, with a checkpoint between its parts.
 
-ghost use Rattle.std.specs.Prelude.{◌≡◌, ◌<◌, IfOk, IfErr, OnOk, vec_len};
-ghost use Rattle.mt_stored.specs.{Checkpoints.scanner, TurnParts.{Begins, StopsBeginning, WritesSlot, StopsSlot, TellsEnd, TellsOlder}, WholeTurns.{parts, WritesTurn, StopsTurn}};
+ghost use Rattle.std.specs.Prelude.{◌≡◌, ◌<◌, IfOk, IfErr, OnOk, Ok, vec_len};
+ghost use Rattle.mt_settle.specs.Next.{TellsNext};
+ghost use Rattle.mt_stored.specs.{Checkpoints.scanner, TurnParts.{Begins, TellsOther, StopsBeginning, WritesSlot, StopsSlot, TellsEnd, TellsOlder}, WholeTurns.{parts, WritesTurn, StopsTurn}};
 
 use crate::checkpoints::{CheckpointStop, write_checkpoint};
 use crate::digests::{Digested, Digests};
@@ -23,12 +24,12 @@ pub enum TurnStop {
     Checkpoint(CheckpointStop),
     /// The digest of a file was not cleared or not kept.
     Digest(Digested, Refusal),
-    /// A log did not tell of its generations, or go to the next one; or it was not settled, or its older one not given up.
+    /// A log did not tell of its generations, or go to the turn's; or it was not settled, or its older one not given up.
     Logs(Refusal),
 }
 
-/// Makes a turn of all logs. It goes to the generation that they tell, as `next_generation` says: so a turn that was left
-/// half done is finished before another begins. Each log that is of an earlier one is followed by its next log. Then a
+/// Makes a turn of all logs to this generation. It has to be the one that they tell, as `next_generation` says: so a turn that
+/// was left half done is finished before another begins. Each log that is of an earlier one is followed by its next log. Then a
 /// checkpoint is written over the desk, as `write_checkpoint` does. Then all logs are settled. If all go up to the
 /// checkpoint's end, the older ones are given up.
 ///
@@ -39,7 +40,8 @@ pub enum TurnStop {
 /// There has to be a tenant. A walk over none makes no step, and such a checkpoint stands for nothing that is given up.
 ///
 /// The slots come back in each case. An error is that of the first part that was refused; no later part was begun. It is
-/// `Device` if the logs were settled up to an earlier step than the checkpoint's end.
+/// `LogCount`, before anything is done, if the logs tell of another generation. It is `Device` if the logs were settled up to
+/// an earlier step than the checkpoint's end.
 pub fn write_turn<L: Ledger, R: Wait + Clock + Log, D: Desk<L>, S: Logs, K: Disk, G: Digests>(
     rt: &R,
     alloc: Global,
@@ -49,14 +51,15 @@ pub fn write_turn<L: Ledger, R: Wait + Clock + Log, D: Desk<L>, S: Logs, K: Disk
     tenants: Vec<u32>,
     slots: StoreSlots<K>,
     digests: &mut G,
+    generation: u64,
 ) -> Result<StoreSlots<K>, (TurnStop, StoreSlots<K>)>
     requires some { 0 < vec_len tenants }
-    ensures ok { IfOk result (λ left. WritesTurn S.does D.does pass.old.worker K.is_honest K.state K.failures G.does (S.logs logs.old) tenants.items (parts logs.old (scanner desk.old pass.old.seen pass.old.share.amount) slots digests.old) (parts logs.new (scanner desk.new pass.new.seen pass.new.share.amount) left digests.new)) }
-    ensures err { IfErr result (λ e. StopsTurn S.does D.does pass.old.worker K.is_honest K.state K.failures G.does (S.logs logs.old) tenants.items e.0 (parts logs.old (scanner desk.old pass.old.seen pass.old.share.amount) slots digests.old) (parts logs.new (scanner desk.new pass.new.seen pass.new.share.amount) e.1 digests.new)) }
+    ensures ok { IfOk result (λ left. WritesTurn S.does D.does pass.old.worker K.is_honest K.state K.failures G.does (S.logs logs.old) generation tenants.items (parts logs.old (scanner desk.old pass.old.seen pass.old.share.amount) slots digests.old) (parts logs.new (scanner desk.new pass.new.seen pass.new.share.amount) left digests.new)) }
+    ensures err { IfErr result (λ e. StopsTurn S.does D.does pass.old.worker K.is_honest K.state K.failures G.does (S.logs logs.old) generation tenants.items e.0 (parts logs.old (scanner desk.old pass.old.seen pass.old.share.amount) slots digests.old) (parts logs.new (scanner desk.new pass.new.seen pass.new.share.amount) e.1 digests.new)) }
     ensures worker { pass.new.worker ≡ pass.old.worker }
     ensures same { S.logs logs.new ≡ S.logs logs.old }
 {
-    let closed = match begin_next(rt, alloc, logs, digests) {
+    let closed = match begin_next(rt, alloc, logs, digests, generation) {
         Ok(closed) => closed,
         Err(stop) => return Err((stop, slots)),
     };
@@ -70,23 +73,23 @@ pub fn write_turn<L: Ledger, R: Wait + Clock + Log, D: Desk<L>, S: Logs, K: Disk
     }
 }
 
-// All logs go to the generation that they tell. Its digests are cleared first, and those of the logs before are kept then.
-// Their generation is told.
+// All logs go to this generation, if they tell of it. Its digests are cleared first, and those of the logs before are kept
+// then. Their generation is told.
 fn begin_next<R: Wait + Clock + Log, S: Logs, G: Digests>(
     rt: &R,
     alloc: Global,
     logs: &mut S,
     digests: &mut G,
+    generation: u64,
 ) -> Result<u64, TurnStop>
-    ensures ok { IfOk result (λ closed. Begins S.does G.does (S.logs logs.old) closed logs.old digests.old logs.new digests.new) }
-    ensures err { IfErr result (λ stop. StopsBeginning S.does G.does (S.logs logs.old) stop logs.old digests.old logs.new digests.new) }
+    ensures ok { IfOk result (λ closed. Begins S.does G.does (S.logs logs.old) generation closed logs.old digests.old logs.new digests.new) }
+    ensures err { IfErr result (λ stop. StopsBeginning S.does G.does (S.logs logs.old) generation stop logs.old digests.old logs.new digests.new) }
     ensures same { S.logs logs.new ≡ S.logs logs.old }
 {
     let count = logs.count();
-    let generation = match next_generation(rt, logs) {
-        Ok(generation) => generation,
-        Err(refusal) => return Err(TurnStop::Logs(refusal)),
-    };
+    if let Err(refusal) = expect_next(rt, logs, generation) {
+        return Err(TurnStop::Logs(refusal));
+    }
     if let Err(refusal) = digests.clear_logs(count, generation) {
         return Err(TurnStop::Digest(Digested::OfLogs(generation), refusal));
     }
@@ -97,6 +100,19 @@ fn begin_next<R: Wait + Clock + Log, S: Logs, G: Digests>(
     match digests.keep_logs(count, closed) {
         Ok(()) => Ok(closed),
         Err(refusal) => Err(TurnStop::Digest(Digested::OfLogs(closed), refusal)),
+    }
+}
+
+// Whether the logs tell that the next turn goes to this generation. It is refused if they don't.
+fn expect_next<R: Wait, S: Logs>(rt: &R, logs: &S, generation: u64) -> Result<(), Refusal>
+    ensures ok { OnOk result (TellsNext S.does (S.logs logs.now) logs.now (Ok generation)) }
+    ensures err { IfErr result (λ e. TellsOther S.does (S.logs logs.now) generation e logs.now) }
+{
+    let next = next_generation(rt, logs)?;
+    if next == generation {
+        Ok(())
+    } else {
+        Err(Refusal::LogCount)
     }
 }
 

@@ -189,7 +189,7 @@ where
 
 #[test]
 fn settles_and_checkpoints_of_several_sessions_at_once_lose_nothing(rt: HostRuntime) {
-    let store = new_store(&rt, rt.alloc(), &[SOUND; 4], bare_slots(rt.alloc()));
+    let store = new_store(&rt, rt.alloc(), &[SOUND; 4], None, bare_slots(rt.alloc()));
     let names = Names::new(store.state());
     run::<Brand, Brand, _>(&rt, rt.alloc(), names, store, Case::AtOnce);
 }

@@ -115,7 +115,7 @@ where
 
 #[test]
 fn a_worker_gives_the_baton_back_and_waits_for_none_that_is_kept(rt: HostRuntime) {
-    let store = new_store(&rt, rt.alloc(), &[SOUND; 2], bare_slots(rt.alloc()));
+    let store = new_store(&rt, rt.alloc(), &[SOUND; 2], None, bare_slots(rt.alloc()));
     let names = Names::new(store.state());
     run::<Brand, Brand, _>(&rt, rt.alloc(), names, store, Case::Batons);
 }

@@ -2,11 +2,10 @@
 
 ghost use Rattle.mt_book.specs.{Keeping.IsUnasked, Names.AreNames};
 
-use self::Act::{Puts, Settles, SettlesWithout};
 use crate::disks::{Fails, FlakyDisk, NEVER};
 use crate::images::{disk_with, hold_all_with, tenant_7};
 use crate::sessions::{Served, Session};
-use crate::stories::{bare_slots, new_store};
+use crate::stories::{Acts, bare_slots, new_store};
 use log::sink::Locked;
 use log::{Level, Log, Logged};
 use mt_book::Names;
@@ -21,24 +20,11 @@ use std::marker::Brand;
 use std::process::Abort;
 use std::sync::Wait;
 use std::sync::ledger::Ledger;
+use std::test::Fail;
 use std::time::Clock;
 
 // How many pairs the checkpoint of each slot has, if there is one, and which slot has the newest.
 type Found = (Option<usize>, Option<usize>, Option<Slot>);
-
-/// What is done.
-#[derive(Clone, Copy, Debug)]
-enum Act {
-    /// The client puts so many new keys.
-    Puts(u16),
-    /// It settles so many times.
-    Settles(u8),
-    /// It settles, and is told that a device failed.
-    Fails,
-    /// Another answer is settled, after which a checkpoint is due, and somebody else has the slots, whose turn is stopped.
-    /// Meanwhile the client settles so many times.
-    SettlesWithout(u8),
-}
 
 /// What both slots have, in memory.
 pub(crate) fn copies_of(
@@ -78,36 +64,23 @@ fn found_in(rt: &impl Abort, alloc: Global, slots: StoreSlots<FlakyDisk>) -> Fou
     (first, second, newest)
 }
 
-impl<L: Ledger, J: Naming, R: Wait + Clock + Log> Session<'_, L, J, R> {
-    // Whether the client settles so many times, and is told a number each time.
-    fn settles(&mut self, count: u8) -> bool {
-        for _ in 0..count {
-            if self.settle().is_err() {
-                return false;
-            }
-        }
-        true
-    }
-
-    // Whether an act comes out as it should.
-    fn comes_out(&mut self, rt: &R, act: Act) -> bool {
-        match act {
-            Puts(count) => self.puts(count),
-            Settles(count) => self.settles(count),
-            Act::Fails => self.settle() == Err(Refusal::Device),
-            SettlesWithout(count) => {
-                let turns = self.turns;
-                turns.count_settled(rt, u64::MAX);
-                let taken = turns.lock(rt).checks.take_due();
-                let Some(due) = taken else {
-                    return false;
-                };
-                let settled = self.settles(count);
-                let stopped = Err((TurnStop::Logs(Refusal::Device), due.slots));
-                let _ = turns.lock(rt).checks.end_turn(stopped);
-                settled
-            }
-        }
+impl<L: Ledger, J: Naming, R: Wait + Clock + Log + Abort> Session<'_, L, J, R> {
+    // Whether an act comes out as it should. It may be done `without` the slots: another answer is settled, after which a
+    // checkpoint is due, and somebody else has them meanwhile, whose turn is stopped.
+    fn comes_out(&mut self, rt: &R, act: &str) -> bool {
+        let Some(meanwhile) = act.strip_prefix("without ") else {
+            return self.does(act);
+        };
+        let turns = &self.served.turns;
+        turns.count_settled(rt, u64::MAX);
+        let taken = turns.lock(rt).checks.take_due();
+        let Some(due) = taken else {
+            return false;
+        };
+        let settled = self.does(meanwhile);
+        let stopped = Err((TurnStop::Logs(Refusal::Device), due.slots));
+        let _ = turns.lock(rt).checks.end_turn(stopped);
+        settled
     }
 }
 
@@ -118,11 +91,11 @@ fn played<R: Wait + Clock + Log + Abort>(
     alloc: Global,
     every: u32,
     fails: Fails,
-    acts: &[Act],
+    acts: &str,
 ) -> Found {
-    let store = new_store(rt, alloc, &[[fails, NEVER, NEVER]], bare_slots(alloc));
+    let store = new_store(rt, alloc, &[[fails, NEVER, NEVER]], None, bare_slots(alloc));
     let names = Names::new(store.state());
-    played_named::<Brand, Brand, _>(rt, alloc, names, store, every, acts)
+    played_named::<Brand, Brand, _>(rt, alloc, names, store, every, Acts(acts))
 }
 
 // The same, over this store and under these names.
@@ -132,86 +105,63 @@ fn played_named<L: Ledger, J: Naming, R: Wait + Clock + Log + Abort>(
     names: Names,
     store: Store<FlakyDisk>,
     every: u32,
-    acts: &[Act],
+    acts: Acts<'_>,
 ) -> Found
     requires names { AreNames L.name L.parts J.name J.parts J.book names store.source.state }
     requires unasked { IsUnasked store.source.state }
 {
     let served = Served::<L, J, R>::new(rt, alloc, names, store, every);
     let mut session = served.session(0);
-    for (place, act) in acts.iter().enumerate() {
-        assert!(rt; session.comes_out(rt, *act), "{place}: {act:?}");
+    for act in acts.0.split(", ") {
+        assert!(rt; session.comes_out(rt, act), "{act} of {}", acts.0);
     }
     drop(session);
     let (_, _, slots) = served.joined().into_parts();
     found_in(rt, alloc, slots.expect(rt, "the slots"))
 }
 
-const NONE: Found = (None, None, None);
-
-const FIRST: Option<Slot> = Some(Slot::First);
-
-const SECOND: Option<Slot> = Some(Slot::Second);
-
-// Stories, with the number of settled answers after which a checkpoint is due, and what the slots have then.
-const STORIES: [(u32, &[Act], Found); 16] = [
-    (0, &[Puts(1), Settles(5)], NONE),
-    (1, &[Puts(1)], NONE),
-    (1, &[Settles(1)], (Some(0), None, FIRST)),
-    (1, &[Puts(1), Settles(1)], (Some(1), None, FIRST)),
-    (
-        1,
-        &[Puts(1), Settles(1), Puts(1), Settles(1)],
-        (Some(1), Some(2), SECOND),
-    ),
-    (
-        1,
-        &[Puts(1), Settles(2), Puts(1), Settles(1), Puts(1)],
-        (Some(2), Some(1), FIRST),
-    ),
+// After how many settled answers a checkpoint is due; what a client does; and what the slots have then.
+const STORIES: [&str; 16] = [
+    "0: puts 1, settles 5 => (None, None, None)",
+    "1: puts 1 => (None, None, None)",
+    "1: settles => (Some(0), None, Some(First))",
+    "1: puts 1, settles => (Some(1), None, Some(First))",
+    "1: puts 1, settles, puts 1, settles => (Some(1), Some(2), Some(Second))",
+    "1: puts 1, settles 2, puts 1, settles, puts 1 => (Some(2), Some(1), Some(First))",
     // Pages that are full, or nearly so.
-    (1, &[Puts(63), Settles(1)], (Some(63), None, FIRST)),
-    (1, &[Puts(64), Settles(1)], (Some(64), None, FIRST)),
-    (1, &[Puts(129), Settles(1)], (Some(129), None, FIRST)),
-    (3, &[Puts(1), Settles(2)], NONE),
-    (3, &[Puts(1), Settles(5)], (Some(1), None, FIRST)),
-    (3, &[Puts(1), Settles(6)], (Some(1), Some(1), SECOND)),
+    "1: puts 63, settles => (Some(63), None, Some(First))",
+    "1: puts 64, settles => (Some(64), None, Some(First))",
+    "1: puts 129, settles => (Some(129), None, Some(First))",
+    "3: puts 1, settles 2 => (None, None, None)",
+    "3: puts 1, settles 5 => (Some(1), None, Some(First))",
+    "3: puts 1, settles 6 => (Some(1), Some(1), Some(Second))",
     // Somebody else writes.
-    (1, &[Puts(1), SettlesWithout(2)], NONE),
-    (
-        1,
-        &[Puts(1), SettlesWithout(2), Settles(1)],
-        (Some(1), None, FIRST),
-    ),
-    (
-        3,
-        &[Puts(1), Settles(2), SettlesWithout(1), Settles(1)],
-        NONE,
-    ),
-    (
-        3,
-        &[Puts(1), Settles(2), SettlesWithout(7), Settles(1)],
-        (Some(1), None, FIRST),
-    ),
+    "1: puts 1, without settles 2 => (None, None, None)",
+    "1: puts 1, without settles 2, settles => (Some(1), None, Some(First))",
+    "3: puts 1, settles 2, without settles, settles => (None, None, None)",
+    "3: puts 1, settles 2, without settles 7, settles => (Some(1), None, Some(First))",
 ];
 
 #[test]
-fn a_checkpoint_is_written_when_it_is_due(rt: HostRuntime) {
-    let alloc = rt.alloc();
-    for (place, (every, acts, wanted)) in STORIES.iter().enumerate() {
-        let found = played(&rt, alloc, *every, NEVER, acts);
-        assert_eq!(rt; found, *wanted, "story {place}");
+fn a_checkpoint_is_written_when_it_is_due(rt: HostRuntime) -> Result<(), Fail> {
+    for &row in &STORIES {
+        let (story, wanted) = row.split_once(" => ").expect(&rt, "a row has two parts");
+        let (every, acts) = story.split_once(": ").expect(&rt, "a story has two parts");
+        let every = every.parse().unwrap_or(9);
+        let found = played(&rt, rt.alloc(), every, NEVER, acts);
+        let found = format!(in rt.alloc(); "{found:?}")?;
+        assert_eq!(rt; found.as_str(), wanted, "{story}");
     }
+    Ok(())
 }
 
 // A Settle that is refused is none after which a checkpoint is due.
 #[test]
 fn a_refused_settle_writes_no_checkpoint(rt: HostRuntime) {
     let alloc = rt.alloc();
-    let acts = [Puts(1), Act::Fails];
     let logged = Logged::new(&rt, Level::Warn, Locked::new(&rt, Vec::new(alloc)));
-    let found = played(&logged, alloc, 1, (4, 5), &acts);
-    assert_eq!(&rt; found, NONE);
+    let found = played(&logged, alloc, 1, (4, 5), "puts 1, fails");
+    assert_eq!(&rt; found, (None, None, None));
 }
 
 // After how many settled answers a turn is due, and whether it is whole.
@@ -230,7 +180,7 @@ const TRIES: [(u32, bool); 7] = [
 #[test]
 fn a_stopped_turn_is_tried_again_after_twice_as_many_answers(rt: HostRuntime) {
     let mut checks = Checks::new(3, 0, Some(bare_slots(rt.alloc())));
-    for (answers, is_whole) in TRIES {
+    for &(answers, is_whole) in &TRIES {
         for _ in 1..answers {
             checks.count_settled(9);
             assert!(rt; !checks.is_due());

@@ -12,6 +12,12 @@ pub(crate) type Fails = (u64, u64);
 /// None of them.
 pub(crate) const NEVER: Fails = (0, 0);
 
+/// What the system tells of a full device.
+pub(crate) const FULL: Option<SystemError> = Some(SystemError::Number(28));
+
+/// What it tells of want of memory.
+pub(crate) const WANT: Option<SystemError> = Some(SystemError::OutOfMemory);
+
 /// None of a worker's three files.
 pub(crate) const SOUND: [Fails; 3] = [NEVER; 3];
 

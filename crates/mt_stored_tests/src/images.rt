@@ -29,13 +29,9 @@ pub(crate) fn tenant_7(rt: &impl Abort, alloc: Global) -> Tenants
     tenants
 }
 
-/// The files of a worker's log with these images: the plain one, the even and the odd one. Some calls of each fail.
-pub(crate) fn files_with(images: FileImages, fails: [Fails; 3]) -> WorkerFiles<FlakyDisk> {
-    files_telling(images, fails, None)
-}
-
-/// The same, of whose failures the system tells this, if anything.
-pub(crate) fn files_telling(
+/// The files of a worker's log with these images: the plain one, the even and the odd one. Some calls of each fail, of which the
+/// system tells this, if anything.
+pub(crate) fn files_with(
     images: FileImages,
     fails: [Fails; 3],
     error: Option<SystemError>,

@@ -35,7 +35,8 @@ pub(crate) fn settled<R: Wait + Clock + Log + Abort>(
 
 // Two workers put all pairs, scans show them, and a Settle keeps them.
 fn served<R: Wait + Clock + Log + Abort>(rt: &R, alloc: Global) -> Vec<FileImages> {
-    let (mut state, logs, _) = new_store(rt, alloc, &[SOUND; 2], bare_slots(alloc)).into_parts();
+    let store = new_store(rt, alloc, &[SOUND; 2], None, bare_slots(alloc));
+    let (mut state, logs, _) = store.into_parts();
     put_all(rt, alloc, &mut state, 0, PUTS);
     expect_all(rt, alloc, &mut state, PUTS);
     settled(rt, alloc, state, logs)

@@ -178,7 +178,7 @@ const DISKS: [(usize, u64, u64); 10] = [
 #[test]
 fn a_loss_of_power_at_any_call_of_a_turn_loses_nothing(rt: HostRuntime) {
     let alloc = rt.alloc();
-    for (disk, first, least) in DISKS {
+    for &(disk, first, least) in &DISKS {
         let mut calls = 0u64;
         for call in first..u64::MAX {
             if !stops_at(&rt, alloc, disk, call) {

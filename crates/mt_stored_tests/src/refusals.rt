@@ -44,7 +44,7 @@ fn told_of(
     let mut files = Vec::new(alloc);
     for (image, fails) in images.iter().zip([[a, b, c], [d, e, f]]) {
         let copy = copy_of(alloc, image).expect(rt, "memory");
-        assert!(rt; files.push(files_with(copy, fails)).is_ok());
+        assert!(rt; files.push(files_with(copy, fails, None)).is_ok());
     }
     let tenants = tenant_7(rt, alloc);
     assert!(rt; !files.is_empty() && files.len() <= 64);
@@ -82,7 +82,8 @@ fn calls_of(
 
 // The files of a store of two workers, each of whom has put three times.
 fn some_images<R: Wait + Clock + Log + Abort>(rt: &R, alloc: Global) -> Vec<FileImages> {
-    let (mut state, logs, _) = new_store(rt, alloc, &[SOUND; 2], bare_slots(alloc)).into_parts();
+    let store = new_store(rt, alloc, &[SOUND; 2], None, bare_slots(alloc));
+    let (mut state, logs, _) = store.into_parts();
     put_all(rt, alloc, &mut state, 0, 3);
     settled(rt, alloc, state, logs)
 }

@@ -12,6 +12,7 @@ use mt_options::TenantQuota;
 use mt_rows::{Column, ColumnIndexes, Command, Key, NamedColumns, Refusal, Reply};
 use mt_service::{DeskCaller, SessionWorker, Turner, Turns};
 use mt_session::{Caller, SessionBuffers};
+use mt_settle::next_generation;
 use mt_store_logs::StoreLog;
 use mt_stored::{
     Checks, Digests, Keeper, NoDigests, SharedLogs, Store, locked_logs, unlocked_logs,
@@ -36,6 +37,7 @@ pub(crate) struct Served<'a, L: Ledger, J: Naming, R> {
     pub book: BookLock<L, J>,
     pub logs: Vec<Mutex<StoreLog<FlakyDisk>>>,
     pub turns: Turns<FlakyDisk>,
+    pub making: Mutex<()>,
 }
 
 /// What answers a worker's session.
@@ -61,13 +63,12 @@ pub(crate) type StoreTurner<'a, L, J, R, G> = Turner<
     G,
 >;
 
-/// A worker's session, a turner that makes the turns which its settled answers make due, and how many keys its client has
+/// A worker's session of a store, which makes the turns that its settled answers make due, and how many keys its client has
 /// put.
 #[derive(Drop)]
 pub(crate) struct Session<'a, L: Ledger, J: Naming, R: Wait + Clock> {
     pub caller: WorkerCaller<'a, L, J, R>,
-    pub turner: StoreTurner<'a, L, J, R, NoDigests>,
-    pub turns: &'a Turns<FlakyDisk>,
+    pub served: &'a Served<'a, L, J, R>,
     pub alloc: Global,
     pub worker: u8,
     pub count: u16,
@@ -95,6 +96,7 @@ impl<'a, L: Ledger, J: Naming, R: Wait + Clock + Log + Abort> Served<'a, L, J, R
             book,
             logs,
             turns,
+            making: Mutex::new(()),
         }
     }
 
@@ -122,19 +124,34 @@ impl<'a, L: Ledger, J: Naming, R: Wait + Clock + Log + Abort> Served<'a, L, J, R
         }
     }
 
-    /// What makes its turns, and asks for digests.
+    /// What makes its turns, the first one to the generation that its logs tell, and asks for digests.
     pub(crate) fn turner<G: Digests + Drop>(&self, digests: G) -> StoreTurner<'_, L, J, R, G> {
+        let next = next_generation(self.rt, &self.shared_logs()).expect(self.rt, "logs");
+        self.turner_to(next, digests)
+    }
+
+    /// What makes its turns, the first one to this generation.
+    pub(crate) fn turner_to<G: Digests + Drop>(
+        &self,
+        next: u64,
+        digests: G,
+    ) -> StoreTurner<'_, L, J, R, G> {
         let (rt, alloc, logs) = (self.rt, self.alloc, self.shared_logs());
         let (pass, clerk) = open_pass(rt, &self.book, 0).expect(rt, "a pass");
-        Turner::new(rt, alloc, clerk, pass, logs, &TENANTS, digests)
+        Turner::new(rt, alloc, clerk, pass, logs, &TENANTS, digests, next)
+    }
+
+    // Makes the turn that is due, if one is. No other session makes one meanwhile.
+    fn make_turn(&self) {
+        let _alone = self.making.lock(self.rt);
+        self.turner(NoDigests {}).make_turn_if_due(&self.turns);
     }
 
     /// A session of a worker.
     pub(crate) fn session(&self, worker: u8) -> Session<'_, L, J, R> {
         let mut session = Session {
             caller: self.caller(worker),
-            turner: self.turner(NoDigests {}),
-            turns: &self.turns,
+            served: self,
             alloc: self.alloc,
             worker,
             count: 0,
@@ -186,7 +203,7 @@ pub(crate) fn get_of(alloc: Global, key: &[u8]) -> Result<Command, AllocError> {
     Ok(Command::Get { key, columns })
 }
 
-impl<L: Ledger, J: Naming, R: Wait + Clock + Log> Session<'_, L, J, R> {
+impl<L: Ledger, J: Naming, R: Wait + Clock + Log + Abort> Session<'_, L, J, R> {
     // What a command is answered, if there is memory for it.
     fn asked(&mut self, command: Result<Command, AllocError>) -> Option<Reply> {
         match command {
@@ -226,6 +243,31 @@ impl<L: Ledger, J: Naming, R: Wait + Clock + Log> Session<'_, L, J, R> {
         true
     }
 
+    /// Whether an act of the client comes out as it should: it `puts`, `gets` or `settles`, so many times or once. Or it settles
+    /// once, and is told that a device `fails`, or that memory is `refused`.
+    pub(crate) fn does(&mut self, act: &str) -> bool {
+        let (word, count) = act.split_once(' ').unwrap_or((act, "1"));
+        let count = count.parse().unwrap_or(0);
+        match word {
+            "puts" => self.puts(count),
+            "gets" => self.gets(count),
+            "settles" => self.settles(count),
+            "fails" => self.settle() == Err(Refusal::Device),
+            "refused" => self.settle() == Err(Refusal::Memory),
+            _ => false,
+        }
+    }
+
+    // Whether the client settles so many times, and is told a number each time.
+    fn settles(&mut self, count: u16) -> bool {
+        for _ in 0..count {
+            if self.settle().is_err() {
+                return false;
+            }
+        }
+        true
+    }
+
     // Opens tenant 7.
     fn open(&mut self) -> bool {
         self.caller.open(7).is_ok()
@@ -244,7 +286,7 @@ impl<L: Ledger, J: Naming, R: Wait + Clock + Log> Session<'_, L, J, R> {
     /// Settles. Then the turn is made that is due.
     pub(crate) fn settle(&mut self) -> Result<u64, Refusal> {
         let told = self.caller.settle();
-        self.turner.make_turn_if_due(self.turns);
+        self.served.make_turn();
         told
     }
 }

@@ -30,6 +30,6 @@ returns-in-Ok-clause-history g c =
     (λ totals. totals.answers ≡ c.new.result.pass.share.amount + answers_in served.items) _ c.totals_of.ensures.whole c.totals_of.ensures.answers
     (λ totals whole shares first is none.
     one_history g.row.L.Denot g.row.J.Denot g.row.R.Denot g.D.Disk.is_honest g.D.Disk.state g.D.Disk.failures g.D.Disk.was_refused g.G.Digests.does c.args.digests tenants c.new-first.result c.new.result.clerk c.new.result.logs workers.items served.items
-    totals.answers c.args.options.now.workers (length c.args.logs.now) whole zip many c.in_ok-workers.ensures.each made c.in_ok-turner.ensures.own desk parts.2 turned c.new.ensures.clerk c.new.ensures.logs
+    totals.answers c.args.options.now.workers (length c.args.logs.now) c.args.next whole zip many c.in_ok-workers.ensures.each made c.in_ok-turner.ensures.own desk parts.2 turned c.new.ensures.clerk c.new.ensures.logs
     (shares ∙ ap (λ (p : Pass g.row.L.Denot). p.share.amount + answers_in served.items) c.new.ensures.pass) first (ap (λ (m : MarkView StateView). m.log) c.new-first.ensures.mark ∙ is)
     (ap (λ (m : MarkView StateView). m.made) c.new-first.ensures.mark ∙ none))

@@ -1,4 +1,4 @@
-use Rattle.mt_stored_tests.proofs.turns.run.Given as goal
+use Rattle.mt_stored_tests.proofs.turns.run_to.Given as goal
 
 -- the ledgers and the history are those that the names are made for
 abbrev pub ghosts-played-L-Ledger : goal.ghosts-played-L-Ledger
