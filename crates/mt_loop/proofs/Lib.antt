@@ -1,0 +1,5 @@
+pub mod Sessions
+pub mod Deeds
+pub mod Asking
+pub mod Tables
+pub mod Looks

@@ -1,0 +1,5 @@
+pub mod Connections
+pub mod Steps
+pub mod Deeds
+pub mod Tables
+pub mod Limits
