@@ -4,7 +4,7 @@ use Rattle.std.specs.Str.Parse.{ParsesUnsigned}
 use Rattle.clap.specs.Words.{without_minus, first_of, first_value, IsUnsignedIn, ReadsOne, Row, Text, matched_of, one_of, one_text, raw_values, rows_of}
 use Rattle.clap.specs.declared.parser.matches.Found.{Found}
 use Rattle.clap.proofs.{CallerReads.signed_reads, WalkLemmas.{first_value-rows, one_text-rows, raw_values-rows}}
-use Rattle.mt_command_line.specs.{CommandLine.{given_for, tenant_words}, Matches.{HasNumber, MayHaveLargeNumber, MayHaveNumber}, Reads.{IsFlag, IsGiven, IsGivenOrZero, IsThere}}
+use Rattle.mt_command_line.specs.{CommandLine.{given_for, tenant_words}, Given.{IsFlag, IsGiven, IsGivenOrZero, IsThere}, Matches.{HasNumber, MayHaveLargeNumber, MayHaveNumber}}
 
 -- the words that matches have for tenants, by their rows
 pub words_are : (f : Found) (o : Option (Bor (List (Bor Text)))) (d r : Bor (List (Bor Text)))

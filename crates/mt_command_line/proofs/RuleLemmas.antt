@@ -8,12 +8,12 @@ use Rattle.clap.specs.{declared.builder.command.Command.Command, declared.builde
 use Rattle.clap.specs.{declared.builder.value_parser.ValueParser.ValueParser, declared.builder.value_parser.ValueParser.TheVariants.{Signed, Unsigned}, declared.parser.matches.ArgMatches.ArgMatches}
 use Rattle.clap.specs.{declared.parser.matches.Found.Found, declared.parser.matches.MatchedArg.MatchedArg}
 use Rattle.clap.proofs.{SimpleLemmas.{is_false, is_nil}, WalkLemmas.both}
-use Rattle.mt_command_line.specs.CommandLine.{number_rule, number_rule_with, value_rule, checkpoint_rule, checkpoint_bytes_rule, settle_every_rule, create_rule, port_rule, server, sessions_rule, store_rule, tenants_rule, verify_rule, workers_rule}
+use Rattle.mt_command_line.specs.CommandLine.{number_rule, number_rule_with, value_rule, checkpoint_rule, checkpoint_bytes_rule, settle_every_rule, create_rule, port_rule, server, sessions_rule, store_rule, tenants_rule, verify_rule, connections_rule, idle_rule, workers_rule}
 use Rattle.mt_command_line.specs.Matches.{HasNumber, MayHaveLargeNumber, MayHaveNumber}
 use Rattle.mt_command_line.proofs.OptionLemmas.{IsOption, option_value, value_if_any}
 
 abbrev pub rules : List Rule
-rules = port_rule ∷ workers_rule ∷ sessions_rule ∷ store_rule ∷ create_rule ∷ checkpoint_rule ∷ checkpoint_bytes_rule ∷ settle_every_rule ∷ verify_rule ∷ tenants_rule ∷ []
+rules = port_rule ∷ workers_rule ∷ sessions_rule ∷ store_rule ∷ create_rule ∷ checkpoint_rule ∷ checkpoint_bytes_rule ∷ settle_every_rule ∷ verify_rule ∷ connections_rule ∷ idle_rule ∷ tenants_rule ∷ []
 
 abbrev pub rule : ℕ → Rule
 rule j = slice_index_or rules j port_rule
@@ -30,12 +30,14 @@ simple_at (suc (suc (suc (suc (suc (suc zero)))))) = refl
 simple_at (suc (suc (suc (suc (suc (suc (suc zero))))))) = refl
 simple_at (suc (suc (suc (suc (suc (suc (suc (suc zero)))))))) = refl
 simple_at (suc (suc (suc (suc (suc (suc (suc (suc (suc zero))))))))) = refl
-simple_at (suc (suc (suc (suc (suc (suc (suc (suc (suc (suc j)))))))))) = refl
+simple_at (suc (suc (suc (suc (suc (suc (suc (suc (suc (suc zero)))))))))) = refl
+simple_at (suc (suc (suc (suc (suc (suc (suc (suc (suc (suc (suc zero))))))))))) = refl
+simple_at (suc (suc (suc (suc (suc (suc (suc (suc (suc (suc (suc (suc j)))))))))))) = refl
 
 abbrev place : Text → Option ℕ
 place id = position (λ (r : Rule). bytes_eq r.id id) rules
 
-placed : (j : ℕ) → j < 10 → place (rule j).id ≡ Some j
+placed : (j : ℕ) → j < 12 → place (rule j).id ≡ Some j
 placed zero lt = refl
 placed (suc zero) lt = refl
 placed (suc (suc zero)) lt = refl
@@ -46,7 +48,9 @@ placed (suc (suc (suc (suc (suc (suc zero)))))) lt = refl
 placed (suc (suc (suc (suc (suc (suc (suc zero))))))) lt = refl
 placed (suc (suc (suc (suc (suc (suc (suc (suc zero)))))))) lt = refl
 placed (suc (suc (suc (suc (suc (suc (suc (suc (suc zero))))))))) lt = refl
-placed (suc (suc (suc (suc (suc (suc (suc (suc (suc (suc j)))))))))) lt = absurd (omega arith)
+placed (suc (suc (suc (suc (suc (suc (suc (suc (suc (suc zero)))))))))) lt = refl
+placed (suc (suc (suc (suc (suc (suc (suc (suc (suc (suc (suc zero))))))))))) lt = refl
+placed (suc (suc (suc (suc (suc (suc (suc (suc (suc (suc (suc (suc j)))))))))))) lt = absurd (omega arith)
 
 none_of : {X : Type 0} (o : Option X) → not (is_some o) ≡ true → o ≡ None
 none_of None e = refl
@@ -100,7 +104,7 @@ module _ (old : Command) (is : app_of old ≡ server) where
   unfolding server
   plain = ap (λ (x : App). x.top.is_plain) is
 
-  count : length (args_of old) ≡ 10
+  count : length (args_of old) ≡ 12
   count = sym (length-map (args_of old) rule_of) ∙ ap (λ (rs : List Rule). length rs) rules_are
 
   rule_at : (j : ℕ) (d : Arg) → j < length (args_of old) → rule_of (slice_index_or (args_of old) j d) ≡ rule j
@@ -113,7 +117,7 @@ module _ (old : Command) (is : app_of old ≡ server) where
   facts j d lt = unconditional (slice_index_or (args_of old) j d) (ap (λ (r : Rule). r.is_simple) (rule_at j d lt) ∙ simple_at j)
 
   -- an argument whose rule is that of an option with a value is one
-  option : (k : ℕ) (name : Text) (parser : ValueParser) (values : List Text) (d : Arg) → k < 10 → rule k ≡ value_rule values name parser → IsOwn name
+  option : (k : ℕ) (name : Text) (parser : ValueParser) (values : List Text) (d : Arg) → k < 12 → rule k ≡ value_rule values name parser → IsOwn name
       → IsOption old k d parser × ((slice_index_or (args_of old) k d).id.now ≡ name)
   option k name parser values d lt of own =
       let within : k < length (args_of old) = omega (arith, count) in
@@ -143,7 +147,7 @@ module _ (old : Command) (is : app_of old ≡ server) where
       )
 
   -- one with a default has it under no condition
-  default : (k least most : ℕ) (name value : Text) (d : Arg) → k < 10 → rule k ≡ number_rule name least most value → WantsDefault (slice_index_or (args_of old) k d)
+  default : (k least most : ℕ) (name value : Text) (d : Arg) → k < 12 → rule k ≡ number_rule name least most value → WantsDefault (slice_index_or (args_of old) k d)
   default k least most name value d lt of =
       let within : k < length (args_of old) = omega (arith, count) in
       let a = slice_index_or (args_of old) k d in
@@ -151,7 +155,7 @@ module _ (old : Command) (is : app_of old ≡ server) where
       ((facts k d within).0, omega (arith, values, length-map (items_of a.default_vals) (λ s. s.now)))
 
   -- the text of such an option is one that clap takes for a number within its bounds
-  pub number_found : (m : ArgMatches) → IsParsedFrom old m → (k least most : ℕ) (name value : Text) → k < 10
+  pub number_found : (m : ArgMatches) → IsParsedFrom old m → (k least most : ℕ) (name value : Text) → k < 12
       → rule k ≡ number_rule name least most value → IsOwn name → HasNumber (found_of m) name least most
   number_found m p k least most name value lt of own =
       let d : Arg = first_of_some (args_of old) (omega (arith, count)) in
@@ -160,7 +164,7 @@ module _ (old : Command) (is : app_of old ≡ server) where
       (v.0, subst (λ (id : Text). one_text (found_of m) id ≡ Some (without_minus v.0)) o.1 v.1, v.2)
 
   -- so is that of an option without a default, if it has any
-  pub number_if_any : (m : ArgMatches) → IsParsedFrom old m → (k least most : ℕ) (name : Text) → k < 10
+  pub number_if_any : (m : ArgMatches) → IsParsedFrom old m → (k least most : ℕ) (name : Text) → k < 12
       → rule k ≡ number_rule_with [] name least most → IsOwn name → MayHaveNumber (found_of m) name least most
   number_if_any m p k least most name lt of own text there =
       let d : Arg = first_of_some (args_of old) (omega (arith, count)) in
@@ -172,7 +176,7 @@ module _ (old : Command) (is : app_of old ≡ server) where
       (v.0, some_is (sym there ∙ same), v.2)
 
   -- so is that of one whose number may be greater than an `i64`
-  pub large_number_if_any : (m : ArgMatches) → IsParsedFrom old m → (k least most : ℕ) (name : Text) → k < 10
+  pub large_number_if_any : (m : ArgMatches) → IsParsedFrom old m → (k least most : ℕ) (name : Text) → k < 12
       → rule k ≡ value_rule [] name (Unsigned least most) → IsOwn name → MayHaveLargeNumber (found_of m) name least most
   large_number_if_any m p k least most name lt of own text there =
       let d : Arg = first_of_some (args_of old) (omega (arith, count)) in

@@ -1,5 +1,5 @@
--- What the program takes: three numbers with defaults, a folder, a flag, three numbers without a default, a folder, and one word or more that name tenants. The words
--- of clap say what a parse of a command line makes of such rules (`Rattle.clap.specs.Words`).
+-- What the program takes: three numbers with defaults, a folder, a flag, three numbers without a default, a folder, two numbers with defaults, and one word or
+-- more that name tenants. The words of clap say what a parse of a command line makes of such rules (`Rattle.clap.specs.Words`).
 use Rattle.std.specs.Prelude.{ℕ, List, [], ◌∷◌, Option, Some, codes, unwrap_or, pos, true}
 use Rattle.clap.specs.{Lexer.usize_max, Words.{App, Kinds, Row, Rule, Text, all_of, fault_of, first_of, matches_of, new_app, new_rule, one_of, with_rule}}
 use Rattle.clap.specs.{declared.builder.ArgAction.TheVariants.{Append, Set, SetTrue}, declared.builder.value_parser.ValueParser.ValueParser, declared.builder.value_parser.ValueParser.TheVariants.{Signed, Unsigned}}
@@ -62,6 +62,14 @@ settle_every_rule = number_rule_with [] (codes "settle-every") 0 4294967295
 abbrev pub verify_rule : Rule
 verify_rule = folder_rule (codes "verify")
 
+-- `--connections`, 1
+abbrev pub connections_rule : Rule
+connections_rule = number_rule (codes "connections") 1 65536 (codes "1")
+
+-- `--idle`, 0
+abbrev pub idle_rule : Rule
+idle_rule = number_rule (codes "idle") 0 4294967 (codes "0")
+
 -- all other words, of which there has to be one
 abbrev pub tenants_rule : Rule
 tenants_rule = record (new_rule (codes "tenants")) {
@@ -78,8 +86,9 @@ with_version app = record app { top = record app.top { has_version = true } }
 -- what the program takes
 unfoldable pub server : App
 server =
-    with_rule (with_rule (with_rule (with_rule (with_rule (with_rule (with_rule (with_rule (with_rule (with_rule (with_version (new_app (codes "mt_server"))) port_rule)
-    workers_rule) sessions_rule) store_rule) create_rule) checkpoint_rule) checkpoint_bytes_rule) settle_every_rule) verify_rule) tenants_rule
+    with_rule (with_rule (with_rule (with_rule (with_rule (with_rule (with_rule (with_rule (with_rule (with_rule (with_rule (with_rule
+    (with_version (new_app (codes "mt_server"))) port_rule) workers_rule) sessions_rule) store_rule) create_rule) checkpoint_rule) checkpoint_bytes_rule)
+    settle_every_rule) verify_rule) connections_rule) idle_rule) tenants_rule
 
 -- what clap finds in a command line, rule by rule; its first word is the program's name
 unfoldable pub found_in : List Text → List Row

@@ -2,7 +2,7 @@
 use Rattle.std.specs.Prelude.{◌≡◌, ◌⊎◌, ℕ}
 use Rattle.clap.specs.{Words.kind_of, declared.error.kind.ErrorKind.ErrorKind, declared.error.kind.ErrorKind.TheVariants.{DisplayHelp, DisplayVersion}}
 use Rattle.mt_command_line.specs.declared.faults.OptionsFault.{OptionsFault}
-use Rattle.mt_command_line.specs.declared.faults.OptionsFault.TheVariants.{Words, CreateAlone, CheckpointAlone, CheckpointBytesAlone, SettleEveryAlone, VerifyAndServe, Malformed, Refused, Memory}
+use Rattle.mt_command_line.specs.declared.faults.OptionsFault.TheVariants.{Words, CreateAlone, CheckpointAlone, CheckpointBytesAlone, SettleEveryAlone, VerifyAndServe, IdleAlone, Malformed, Refused, Memory}
 
 -- the words ask for help or for a version, and are no fault
 abbrev pub AsksForHelp : ErrorKind → Type 0
@@ -16,6 +16,7 @@ HasStatus CheckpointAlone status = status ≡ 2
 HasStatus CheckpointBytesAlone status = status ≡ 2
 HasStatus SettleEveryAlone status = status ≡ 2
 HasStatus VerifyAndServe status = status ≡ 2
+HasStatus IdleAlone status = status ≡ 2
 HasStatus (Malformed word before why) status = status ≡ 2
 HasStatus (Refused word before refusal) status = status ≡ 2
 HasStatus Memory status = status ≡ 1

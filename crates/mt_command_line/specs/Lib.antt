@@ -1,4 +1,5 @@
 pub mod CommandLine
 pub mod Faults
+pub mod Given
 pub mod Matches
 pub mod Reads

@@ -30,4 +30,6 @@ pub record AreMatches (words : List Text) (matches : ArgMatches) : Type 0 where
   pub port : HasNumber (found_of matches) (codes "port") 0 65535
   pub workers : HasNumber (found_of matches) (codes "workers") 1 64
   pub sessions : HasNumber (found_of matches) (codes "sessions") 0 4294967295
+  pub connections : HasNumber (found_of matches) (codes "connections") 1 65536
+  pub idle : HasNumber (found_of matches) (codes "idle") 0 4294967
   pub may : MayHaveNumbers (found_of matches)

@@ -1,33 +1,12 @@
 -- What is read from the words of a command line: options, or a fault.
-use Rattle.std.specs.{Prelude.{◌≡◌, ◌⊎◌, ℕ, ◌≤◌, Bool, true, false, List, [], Option, Some, None, IsSome, Result, Ok, Err, String, Vec, codes, slice_get}, Global.Global}
-use Rattle.std.specs.Str.Parse.{IsNumeral, digits_value, without_leading_plus}
+use Rattle.std.specs.{Prelude.{◌≡◌, ◌⊎◌, true, false, List, [], Option, Some, None, IsSome, Result, Ok, Err, String, Vec, codes, slice_get}, Global.Global}
 use Rattle.clap.specs.Words.{IsAmong, Row, Text, kind_of}
 use Rattle.mt_options.specs.{declared.options.Options.Options, declared.options.StorePlace.StorePlace, declared.tenants.TenantQuota.TenantQuota}
 use Rattle.mt_options.specs.Tenants.{AreTenants, IsFirstFault}
 use Rattle.mt_command_line.specs.declared.faults.OptionsFault.{OptionsFault}
-use Rattle.mt_command_line.specs.declared.faults.OptionsFault.TheVariants.{Words, CreateAlone, CheckpointAlone, CheckpointBytesAlone, SettleEveryAlone, VerifyAndServe, Malformed, Refused, Memory}
-use Rattle.mt_command_line.specs.CommandLine.{faults_in, folder_in, found_in, given_for, tenant_words, verified_in}
+use Rattle.mt_command_line.specs.declared.faults.OptionsFault.TheVariants.{Words, CreateAlone, CheckpointAlone, CheckpointBytesAlone, SettleEveryAlone, VerifyAndServe, IdleAlone, Malformed, Refused, Memory}
+use Rattle.mt_command_line.specs.{CommandLine.{faults_in, folder_in, found_in, given_for, tenant_words, verified_in}, Given.{EndsSilent, IsFlag, IsGiven, IsGivenOrZero, IsIdleAlone, IsThere}}
 use Rattle.mt_options.specs.declared.tenants.TenantsFault.TheVariants as tenants_fault
-
--- the number is the one that is found for the option, in decimal digits, and lies from `least` to `most`
-abbrev pub IsGiven : Text → ℕ → ℕ → List Row → ℕ → Type 0
-IsGiven name least most rows number =
-    (text : Text) × (given_for name rows ≡ Some text) × IsNumeral 10 (without_leading_plus text)
-    × (number ≡ digits_value 10 (without_leading_plus text)) × (least ≤ number) × (number ≤ most)
-
--- a flag is set where `true` is found for it, and isn't where `false` is, or nothing
-pub record IsFlag (name : Text) (rows : List Row) (is_set : Bool) : Type 0 where
-  pub set : given_for name rows ≡ Some (codes "true") → is_set ≡ true
-  pub other : given_for name rows ≡ Some (codes "false") → is_set ≡ false
-  pub none : given_for name rows ≡ None → is_set ≡ false
-
--- the number is the one that is found for the option, up to `most`, or 0 if none is found
-abbrev pub IsGivenOrZero : Text → ℕ → List Row → ℕ → Type 0
-IsGivenOrZero name most rows number = IsGiven name 0 most rows number ⊎ ((given_for name rows ≡ None) × (number ≡ 0))
-
--- something is found for the option
-abbrev pub IsThere : Text → List Row → Type 0
-IsThere name rows = (text : Text) × (given_for name rows ≡ Some text)
 
 -- The place of a store is the folder that is found for `--store`, with the flag `--create`. When a checkpoint is written, and when all is settled, is found
 -- for three options.
@@ -103,6 +82,8 @@ pub record AsksFor (words : List Text) (options : Options) : Type 0 where
   pub port : IsGiven (codes "port") 0 65535 (found_in words) options.port
   pub workers : IsGiven (codes "workers") 1 64 (found_in words) options.workers
   pub sessions : IsGiven (codes "sessions") 0 4294967295 (found_in words) options.sessions
+  pub connections : IsGiven (codes "connections") 1 65536 (found_in words) options.connections
+  pub ends_silent : EndsSilent (found_in words) options.connections options.idle
   pub folders : NamesFolders (found_in words) options.verify options.store
   pub tenants : AreTenants (tenant_words (found_in words)) options.tenants.items
 
@@ -116,8 +97,8 @@ IsFoldersFault rows fault = (verified_in rows ≡ None) × IsStoreFault rows fau
 abbrev pub IsToldOfFolders : List Text → OptionsFault → Type 0
 IsToldOfFolders words fault = (faults_in words ≡ []) × IsFoldersFault (found_in words) fault
 
--- The fault is one that the command line has: one of its options, of a store to be read and served, of an option of a store without a folder, or else of the
--- first of its tenants' words.
+-- The fault is one that the command line has. It is of a single option, of `--idle` beside one connection, of a store to be read and served, or of an option
+-- of a store without a folder. Or else it is of the first of its tenants' words.
 abbrev pub IsTold : List Text → OptionsFault → Type 0
 IsTold words (Words error) = IsAmong (kind_of error) (faults_in words)
 IsTold words CreateAlone = IsToldOfFolders words CreateAlone
@@ -125,6 +106,7 @@ IsTold words CheckpointAlone = IsToldOfFolders words CheckpointAlone
 IsTold words CheckpointBytesAlone = IsToldOfFolders words CheckpointBytesAlone
 IsTold words SettleEveryAlone = IsToldOfFolders words SettleEveryAlone
 IsTold words VerifyAndServe = IsToldOfFolders words VerifyAndServe
+IsTold words IdleAlone = (faults_in words ≡ []) × IsIdleAlone (found_in words)
 IsTold words (Malformed word before why) = (faults_in words ≡ []) × IsTenantsFault (tenant_words (found_in words)) (Malformed word before why)
 IsTold words (Refused word before refusal) = (faults_in words ≡ []) × IsTenantsFault (tenant_words (found_in words)) (Refused word before refusal)
 IsTold words Memory = Unit {0}

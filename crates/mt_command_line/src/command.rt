@@ -2,7 +2,7 @@
 
 ghost use Rattle.std.specs.Prelude.{◌≡◌, IfOk, false};
 ghost use Rattle.clap.specs.Words.{app_of, rule_of};
-ghost use Rattle.mt_command_line.specs.CommandLine.{port_rule, workers_rule, sessions_rule, store_rule, create_rule, checkpoint_rule, checkpoint_bytes_rule, settle_every_rule, verify_rule, tenants_rule, server};
+ghost use Rattle.mt_command_line.specs.CommandLine.{port_rule, workers_rule, sessions_rule, store_rule, create_rule, checkpoint_rule, checkpoint_bytes_rule, settle_every_rule, verify_rule, connections_rule, idle_rule, tenants_rule, server};
 
 use clap::{Arg, ArgAction, Command, value_parser};
 use std::alloc::{AllocError, Global};
@@ -130,6 +130,34 @@ fn verify_arg<'a>(alloc: Global) -> Arg<'a>
         )
 }
 
+// `--connections`.
+fn connections_arg<'a>(alloc: Global) -> Arg<'a>
+    ensures rule { rule_of result ≡ connections_rule }
+    ensures local { result.global ≡ false }
+{
+    Arg::new(alloc, "connections")
+        .long("connections")
+        .value_name("C")
+        .action(ArgAction::Set)
+        .value_parser(value_parser!(u32).range(1..=65_536))
+        .default_value("1")
+        .help("How many connections each worker serves at a time, 1 to 65536")
+}
+
+// `--idle`.
+fn idle_arg<'a>(alloc: Global) -> Arg<'a>
+    ensures rule { rule_of result ≡ idle_rule }
+    ensures local { result.global ≡ false }
+{
+    Arg::new(alloc, "idle")
+        .long("idle")
+        .value_name("S")
+        .action(ArgAction::Set)
+        .value_parser(value_parser!(u32).range(0..=4_294_967))
+        .default_value("0")
+        .help("Ends a connection after S silent seconds, if C is 2 or more; 0: never")
+}
+
 // The words that name tenants.
 fn tenants_arg<'a>(alloc: Global) -> Arg<'a>
     ensures rule { rule_of result ≡ tenants_rule }
@@ -160,5 +188,7 @@ pub(crate) fn command_of<'a>(alloc: Global) -> Result<Command<'a>, AllocError>
         .arg(checkpoint_bytes_arg(alloc))?
         .arg(settle_every_arg(alloc))?
         .arg(verify_arg(alloc))?
+        .arg(connections_arg(alloc))?
+        .arg(idle_arg(alloc))?
         .arg(tenants_arg(alloc))
 }

@@ -26,6 +26,8 @@ pub enum OptionsFault {
     SettleEveryAlone,
     /// `--verify` is given with `--store` or `--create`.
     VerifyAndServe,
+    /// `--idle` is more than 0, and `--connections` is 1.
+    IdleAlone,
     /// This word isn't `T:Q`, for this reason. So many of the tenants' words stand before it.
     Malformed {
         word: String,
@@ -56,6 +58,7 @@ impl OptionsFault {
             | OptionsFault::CheckpointBytesAlone
             | OptionsFault::SettleEveryAlone
             | OptionsFault::VerifyAndServe
+            | OptionsFault::IdleAlone
             | OptionsFault::Malformed { .. }
             | OptionsFault::Refused { .. } => 2,
             OptionsFault::Memory => 1,
@@ -122,6 +125,10 @@ impl fmt::Display for OptionsFault {
             OptionsFault::VerifyAndServe => write!(
                 f,
                 "--verify only reads a store: give it in place of --store, and without --create"
+            ),
+            OptionsFault::IdleAlone => write!(
+                f,
+                "--idle ends silent connections of workers that serve several each, and --connections C is 1"
             ),
             OptionsFault::Malformed { word, why, .. } => write!(
                 f,

@@ -1,14 +1,16 @@
 //! Options from the words of a command line.
 
-ghost use Rattle.std.specs.Prelude.{List, ◌≡◌, ◌<◌, Some, IfOk, IfErr, MatchResult, length, map, slice_get};
+ghost use Rattle.std.specs.Prelude.{List, ◌≡◌, ◌<◌, ◌≤◌, Some, IfOk, IfErr, MatchResult, codes, length, map, slice_get};
 ghost use Rattle.clap.specs.Words.{Text, found_of, rows_of};
-ghost use Rattle.mt_command_line.specs.{CommandLine.tenant_words, Matches.{AreMatches, MayHaveNumbers}, Reads.{AsksFor, IsFoldersFault, IsStoreFault, IsTold, IsVerifyFault, Names, NamesFolders, NamesStore, NamesVerified}};
+ghost use Rattle.mt_command_line.specs.{CommandLine.{found_in, tenant_words}, Given.{EndsSilent, IsGiven}, Matches.{AreMatches, MayHaveNumbers}, Reads.{AsksFor, IsFoldersFault, IsStoreFault, IsTold, IsVerifyFault, Names, NamesFolders, NamesStore, NamesVerified}};
 
 use crate::command::command_of;
 use crate::faults::OptionsFault;
 use clap::ArgMatches;
 use clap::error::ErrorKind;
-use mt_options::{MAX_WORKERS, Options, StorePlace, TenantQuota, TenantsFault, read_tenants};
+use mt_options::{
+    MAX_CONNECTIONS, MAX_WORKERS, Options, StorePlace, TenantQuota, TenantsFault, read_tenants,
+};
 use mt_rows::Refusal;
 use std::alloc::{AllocError, Global};
 
@@ -102,10 +104,28 @@ fn folders_of(
     }
 }
 
+// How many connections each worker serves at a time, and after how many seconds it ends a silent one.
+fn connections_of(matches: &ArgMatches<'_>) -> Result<(u32, u32), OptionsFault>
+    ensures within { IfOk result (λ r. (1 ≤ r.0) × (r.0 ≤ 65536) × (r.0 ≡ 1 → r.1 ≡ 0)) }
+    ensures asked { (words : List Text) → AreMatches words matches.now
+        → MatchResult result (λ r. IsGiven (codes "connections") 1 65536 (found_in words) r.0 × EndsSilent (found_in words) r.0 r.1) (IsTold words) }
+{
+    let connections = matches
+        .get_one::<u32>("connections")
+        .unwrap_or(1)
+        .clamp(1, MAX_CONNECTIONS);
+    let idle = matches.get_one::<u32>("idle").unwrap_or(0);
+    if connections == 1 && idle != 0 {
+        return Err(OptionsFault::IdleAlone);
+    }
+    Ok((connections, idle))
+}
+
 // What the matches ask for.
 fn options_of(alloc: Global, matches: &ArgMatches<'_>) -> Result<Options, OptionsFault>
     ensures { (words : List Text) → AreMatches words matches.now → MatchResult result (AsksFor words) (IsTold words) }
 {
+    let (connections, idle) = connections_of(matches)?;
     let (verify, store) = folders_of(alloc, matches)?;
     let tenants = tenants_of(alloc, matches)?;
     Ok(Options {
@@ -115,6 +135,8 @@ fn options_of(alloc: Global, matches: &ArgMatches<'_>) -> Result<Options, Option
             .unwrap_or(4)
             .clamp(1, MAX_WORKERS),
         sessions: matches.get_one::<u32>("sessions").unwrap_or(0),
+        connections,
+        idle,
         store,
         verify,
         tenants,

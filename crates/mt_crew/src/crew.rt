@@ -153,8 +153,8 @@ fn accept_one<R: Wait>(rt: &R, listener: &TcpListener) -> Result<TcpStream, Crew
     unreachable!()
 }
 
-// Whether a fault of accepting is of one connection alone.
-fn is_of_one_connection(kind: ErrorKind) -> bool
+/// Whether a fault of accepting is of one connection alone.
+pub fn is_of_one_connection(kind: ErrorKind) -> bool
     ensures { result ≡ is_of_one_connection kind }
 {
     matches!(
@@ -166,10 +166,12 @@ fn is_of_one_connection(kind: ErrorKind) -> bool
 // How many bytes a worker's thread takes, for a moment, before its first stream.
 const FIRST_BYTES: usize = 64;
 
-// So many bytes. The C library sets address space aside for a thread when that first takes memory. If none is
-// left by then, each piece that the thread takes has a page of its own. Inlined they would be left out.
+/// A few bytes. The C library sets address space aside for a thread when that first takes memory. If none is
+/// left by then, each piece that the thread takes has a page of its own. Inlined they would be left out.
 #[inline(never)]
-fn first_bytes(alloc: Global) -> Result<Vec<u8>, AllocError> {
+pub fn first_bytes(alloc: Global) -> Result<Vec<u8>, AllocError>
+    ensures { IfOk result (λ bytes. vec_len bytes ≡ 0) }
+{
     Vec::with_capacity(alloc, FIRST_BYTES)
 }
 

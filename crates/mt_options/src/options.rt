@@ -1,11 +1,14 @@
 //! All that a server is asked to do.
 
-ghost use Rattle.std.specs.Prelude.{◌≤◌};
+ghost use Rattle.std.specs.Prelude.{◌≡◌, ◌≤◌};
 
 use crate::tenants::TenantQuota;
 
-/// The greatest number of connections that are served at a time.
+/// The greatest number of workers.
 pub const MAX_WORKERS: u8 = 64;
+
+/// The greatest number of connections that a worker serves at a time.
+pub const MAX_CONNECTIONS: u32 = 65_536;
 
 /// Where a server keeps its logs, and how often it writes a checkpoint and settles of its own accord.
 #[derive(Drop)]
@@ -27,10 +30,15 @@ pub struct StorePlace {
 pub struct Options {
     /// The port of 127.0.0.1; 0 takes a free one.
     pub port: u16,
-    /// How many connections are served at a time.
+    /// How many workers serve connections.
     pub workers: u8,
     /// How many connections are accepted before it ends; 0: it doesn't end.
     pub sessions: u32,
+    /// How many connections each worker serves at a time.
+    pub connections: u32,
+    /// A connection is ended after it was silent for so many seconds; 0: never for that. A worker that serves one at a
+    /// time ends none.
+    pub idle: u32,
     /// Where it keeps its logs; none are kept without it.
     pub store: Option<StorePlace>,
     /// The folder of a store that is only read, to say what it holds. Then nothing is served, and no store is named.
@@ -39,4 +47,6 @@ pub struct Options {
     pub tenants: Vec<TenantQuota>,
 
     ghost few: { (1 ≤ workers) × (workers ≤ 64) },
+    ghost many: { (1 ≤ connections) × (connections ≤ 65536) },
+    ghost alone: { connections ≡ 1 → idle ≡ 0 },
 }

@@ -9,11 +9,12 @@ use log::sink::Console;
 use log::{Level, Logged, warn};
 use mt_book::Names;
 use mt_command_line::{OptionsFault, read_options, remedy};
-use mt_service::{FolderDigests, OpenStore, ServerFault, open_store, run_server, verify_store};
+use mt_service::{
+    FolderDigests, OpenStore, ServerFault, listen, open_store, run_server, verify_store,
+};
 use std::env::{self, Env, FillError};
 use std::io::{self, ErrorKind};
 use std::marker::Brand;
-use std::net::TcpListener;
 use std::process::ExitCode;
 
 fn main(rt: HostRuntime) -> ExitCode {
@@ -38,7 +39,7 @@ fn main(rt: HostRuntime) -> ExitCode {
         Ok(opened) => opened,
         Err(fault) => return ended(&rt, Err(fault)),
     };
-    let listener = match TcpListener::bind(&rt, ("127.0.0.1", options.port)) {
+    let listener = match listen(&rt, &options) {
         Ok(listener) => listener,
         Err(error) => {
             let port = options.port;

@@ -53,7 +53,7 @@ const STARTS: [&str; 8] = [
 #[test]
 fn stores_are_opened_and_refused(rt: HostRuntime) -> Result<(), Fail> {
     let _ = fs::remove_dir_all(&rt, "mt_server_tests_store");
-    for row in STARTS {
+    for &row in &STARTS {
         let (words, wanted) = row.split_once(" => ").expect(&rt, "a row has two parts");
         let line = format!(in rt.alloc(); "mt_server --store mt_server_tests_store{words}")?;
         expect_told(&rt, rt.alloc(), line.as_str(), wanted);
@@ -125,7 +125,7 @@ fn a_new_store_has_its_files_and_no_other(rt: HostRuntime) -> Result<(), Fail> {
     ] {
         expect_told(&rt, rt.alloc(), line, "0: ");
     }
-    for (path, bytes) in MADE {
+    for &(path, bytes) in &MADE {
         expect_file(&rt, path, &[bytes]);
         fs::remove_file(&rt, path)?;
     }
@@ -134,122 +134,63 @@ fn a_new_store_has_its_files_and_no_other(rt: HostRuntime) -> Result<(), Fail> {
     Ok(())
 }
 
-// Bytes that are put in places of `LOG`.
-type Edits = &'static [(usize, u8)];
-
-// What is changed of each log, which is cut to a length, and what is said of the folder `mt_server_tests_bad`. `mt_log_tests` has
-// more of the first ones.
-const REFUSED: [(&[Edits], usize, &str); 8] = [
-    (&[&[]], 5, NO_PLAIN_LOG),
-    (
-        &[&[]],
-        54,
-        "3: E12: 'mt_server_tests_bad/wal-00' is no log from byte 54 on: ",
-    ),
+// The length to which each log is cut, and behind bars what is changed of each, places and bytes of `LOG`. And what is said of the
+// folder `mt_server_tests_bad`. `mt_log_tests` has more of the first ones.
+const REFUSED: [&str; 8] = [
+    "5 |  => 3: E12: 'mt_server_tests_bad/wal-00' is no log from byte 0 on: ",
+    "54 |  => 3: E12: 'mt_server_tests_bad/wal-00' is no log from byte 54 on: ",
     // A worker is named that is none of so many.
-    (&[&[(6, 1)]], 55, NO_PLAIN_LOG),
+    "55 | 6=1 => 3: E12: 'mt_server_tests_bad/wal-00' is no log from byte 0 on: ",
     // A log that was given up, two logs of one worker, a stamp in both, two pairs if one may be, a pair of another tenant.
-    (&[&[(0, 0)]], 55, NO_SET),
-    (
-        &[&[(7, 2)], &[(7, 2)]],
-        55,
-        "3: E15: 'mt_server_tests_bad/wal-01' is log 0 of 2, and log 1 of 2 was expected there: put all files back from one backup",
-    ),
-    (
-        &[&[(7, 2)], &[(6, 1), (7, 2)]],
-        55,
-        "3: E13: 'mt_server_tests_bad/wal-01' doesn't go with the other logs at step 5: put all files back from one backup",
-    ),
-    (
-        &[&[(7, 2)], &[(6, 1), (7, 2), (41, 4), (48, b'l')]],
-        55,
-        "3: E14: tenant 7 has more pairs in 'mt_server_tests_bad' than its quota: give it a greater one",
-    ),
-    (
-        &[&[(45, 8)]],
-        55,
-        "3: E4: the store in 'mt_server_tests_bad' has pairs of tenant 8, which isn't named: name each of its tenants",
-    ),
+    "55 | 0=0 => 3: E15: the logs of 'mt_server_tests_bad' aren't all of one store; the folder has 1 log for 1 worker: put all files back from one backup",
+    "55 | 7=2 | 7=2 => 3: E15: 'mt_server_tests_bad/wal-01' is log 0 of 2, and log 1 of 2 was expected there: put all files back from one backup",
+    "55 | 7=2 | 6=1 7=2 => 3: E13: 'mt_server_tests_bad/wal-01' doesn't go with the other logs at step 5: put all files back from one backup",
+    "55 | 7=2 | 6=1 7=2 41=4 48=108 => 3: E14: tenant 7 has more pairs in 'mt_server_tests_bad' than its quota: give it a greater one",
+    "55 | 45=8 => 3: E4: the store in 'mt_server_tests_bad' has pairs of tenant 8, which isn't named: name each of its tenants",
 ];
 
-// The plain file; what is changed of `NEXT_LOG`, which is cut to a length and stands in a numbered file beside it; and what is
-// said of the folder `mt_server_tests_bad`.
-const BAD_NUMBERED: [(&[u8], &str, Edits, usize, &str); 8] = [
+// The plain file, and the parity of the numbered file beside it. Behind bars the length to which `NEXT_LOG` is cut there, and what
+// is changed of it. And what is said of that folder.
+const BAD_NUMBERED: [&str; 8] = [
     // The other file; an open gate without a header; no logs.
-    (LOG, EVEN, &[], 26, NO_EVEN_LOG),
-    (LOG, EVEN, &[], 1, NO_EVEN_LOG),
-    (
-        LOG,
-        ODD,
-        &[(8, 0)],
-        26,
-        "3: E12: 'mt_server_tests_bad/wal-00-1' is no log from byte 0 on: put ",
-    ),
+    "log 0 | 26 |  => 3: E12: 'mt_server_tests_bad/wal-00-0' is no log from byte 0 on: put all files back from one backup",
+    "log 0 | 1 |  => 3: E12: 'mt_server_tests_bad/wal-00-0' is no log from byte 0 on: put all files back from one backup",
+    "log 1 | 26 | 8=0 => 3: E12: 'mt_server_tests_bad/wal-00-1' is no log from byte 0 on: put ",
     // The log of another worker, of two.
-    (LOG, ODD, &[(7, 1), (8, 2)], 26, STRANGE),
+    "log 1 | 26 | 7=1 8=2 => 3: E15: 'mt_server_tests_bad/wal-00-1' is log 1 of 2, and log 0 of 1 was expected there: put all files back from one backup",
     // An open gate without a batch, beside the plain log and alone.
-    (LOG, ODD, &[(25, 1)], 26, NO_BATCH),
-    (
-        SPARE,
-        ODD,
-        &[(25, 1)],
-        26,
-        "3: E12: 'mt_server_tests_bad/wal-00-1' is no log from byte 25 on: put ",
-    ),
+    "log 1 | 26 | 25=1 => 3: E12: 'mt_server_tests_bad/wal-00' or 'mt_server_tests_bad/wal-00-1' is no log from byte 25 on: put all files back from one backup",
+    "spare 1 | 26 | 25=1 => 3: E12: 'mt_server_tests_bad/wal-00-1' is no log from byte 25 on: put ",
     // A start that isn't where the plain log ends; a generation without the one before it.
-    (LOG, ODD, &[(24, 5)], 26, NO_CHAIN),
-    (LOG, ODD, &[(16, 3)], 26, NO_SET),
+    "log 1 | 26 | 24=5 => 3: E13: 'mt_server_tests_bad/wal-00' or 'mt_server_tests_bad/wal-00-1' doesn't go with the other logs at step 5: put all files back from one backup",
+    "log 1 | 26 | 16=3 => 3: E15: the logs of 'mt_server_tests_bad' aren't all of one store; the folder has 1 log for 1 worker: put all files back from one backup",
 ];
-
-const EVEN: &str = "mt_server_tests_bad/wal-00-0";
-
-const ODD: &str = "mt_server_tests_bad/wal-00-1";
-
-const NO_PLAIN_LOG: &str = "3: E12: 'mt_server_tests_bad/wal-00' is no log from byte 0 on: ";
-
-const NO_SET: &str =
-    "3: E15: the logs of 'mt_server_tests_bad' aren't all of one store; the folder has 1 log for 1 worker: put all files back from one backup";
-
-const NO_EVEN_LOG: &str =
-    "3: E12: 'mt_server_tests_bad/wal-00-0' is no log from byte 0 on: put all files back from one backup";
-
-const STRANGE: &str =
-    "3: E15: 'mt_server_tests_bad/wal-00-1' is log 1 of 2, and log 0 of 1 was expected there: put all files back from one backup";
-
-const NO_BATCH: &str =
-    "3: E12: 'mt_server_tests_bad/wal-00' or 'mt_server_tests_bad/wal-00-1' is no log from byte 25 on: put all files back from one backup";
-
-const NO_CHAIN: &str =
-    "3: E13: 'mt_server_tests_bad/wal-00' or 'mt_server_tests_bad/wal-00-1' doesn't go with the other logs at step 5: put all files back from one backup";
 
 // A log with these bytes changed, cut to a length.
-fn image_with(alloc: Global, log: &[u8], edits: Edits, len: usize) -> Result<Vec<u8>, AllocError> {
+fn image_with(alloc: Global, log: &[u8], edits: &str, len: &str) -> Result<Vec<u8>, AllocError> {
     let mut image = log.to_vec(alloc)?;
-    for (place, byte) in edits {
-        if let Some(old) = image.get_mut(*place) {
-            *old = *byte;
+    for edit in edits.split_whitespace() {
+        let (place, byte) = edit.split_once('=').unwrap_or(("", ""));
+        if let Some(old) = image.get_mut(place.parse().unwrap_or(usize::MAX)) {
+            *old = byte.parse().unwrap_or(u8::MAX);
         }
     }
-    image.truncate(len);
+    image.truncate(len.parse().unwrap_or(0));
     Ok(image)
 }
 
 // A store in the folder `mt_server_tests_bad` whose plain files are replaced by such ones is refused so. It has no numbered
 // ones and no slots, as a store of an older server, and has none after that either.
-fn expect_refused<R: Host + Files<File = File>>(
-    rt: &R,
-    alloc: Global,
-    logs: &[Edits],
-    len: usize,
-    told: &str,
-) {
-    let workers = logs.len();
+fn expect_refused<R: Host + Files<File = File>>(rt: &R, alloc: Global, row: &str) {
+    let (files, told) = row.split_once(" => ").expect(rt, "a row has two parts");
+    let (len, logs) = files.split_once(" | ").expect(rt, "a row has logs");
+    let workers = logs.split(" | ").count();
     let new = format!(in alloc;
         "mt_server --workers {workers} --store mt_server_tests_bad 7:1 --create"
     );
     let new = new.expect(rt, "memory");
     expect_told(rt, alloc, new.as_str(), "0: ");
-    for (place, edits) in logs.iter().enumerate() {
+    for (place, edits) in logs.split(" | ").enumerate() {
         let path = format!(in alloc; "mt_server_tests_bad/wal-0{place}").expect(rt, "memory");
         let image = image_with(alloc, LOG, edits, len).expect(rt, "memory");
         fs::write(rt, path.as_str(), image.as_slice()).expect(rt, "a file");
@@ -280,33 +221,32 @@ fn spares_of(alloc: Global, workers: usize) -> Result<Vec<String>, AllocError> {
 }
 
 // A store in that folder with such a plain file and such a numbered one is refused so, and both stay.
-fn expect_numbered_refused<R: Host + Files<File = File> + Alloc>(
-    rt: &R,
-    alloc: Global,
-    plain: &[u8],
-    numbered: &str,
-    image: &[u8],
-    told: &str,
-) {
+fn expect_numbered_refused<R: Host + Files<File = File> + Alloc>(rt: &R, alloc: Global, row: &str) {
+    let (files, told) = row.split_once(" => ").expect(rt, "a row has two parts");
+    let (names, next) = files.split_once(" | ").expect(rt, "a row has a log");
+    let (len, edits) = next.split_once(" | ").expect(rt, "a log has a length");
+    let (word, parity) = names.split_once(' ').expect(rt, "two files");
+    let plain = if word == "log" { LOG } else { SPARE };
+    let numbered = format!(in alloc; "mt_server_tests_bad/wal-00-{parity}").expect(rt, "memory");
+    let image = image_with(alloc, NEXT_LOG, edits, len).expect(rt, "memory");
     let new = "mt_server --workers 1 --store mt_server_tests_bad 7:1 --create";
     expect_told(rt, alloc, new, "0: ");
-    fs::write(rt, numbered, image).expect(rt, "a file");
+    fs::write(rt, numbered.as_str(), image.as_slice()).expect(rt, "a file");
     fs::write(rt, "mt_server_tests_bad/wal-00", plain).expect(rt, "a file");
     let line = "mt_server --workers 1 --store mt_server_tests_bad 7:1";
     expect_told(rt, alloc, line, told);
     expect_file(rt, "mt_server_tests_bad/wal-00", &[plain]);
-    expect_file(rt, numbered, &[image]);
+    expect_file(rt, numbered.as_str(), &[&image]);
 }
 
 #[test]
 fn hostile_logs_are_refused(rt: HostRuntime) -> Result<(), Fail> {
     let _ = fs::remove_dir_all(&rt, "mt_server_tests_bad");
-    for (logs, len, told) in REFUSED {
-        expect_refused(&rt, rt.alloc(), logs, len, told);
+    for row in &REFUSED {
+        expect_refused(&rt, rt.alloc(), row);
     }
-    for (plain, numbered, edits, len, told) in BAD_NUMBERED {
-        let image = image_with(rt.alloc(), NEXT_LOG, edits, len)?;
-        expect_numbered_refused(&rt, rt.alloc(), plain, numbered, image.as_slice(), told);
+    for row in &BAD_NUMBERED {
+        expect_numbered_refused(&rt, rt.alloc(), row);
     }
     fs::remove_dir_all(&rt, "mt_server_tests_bad")?;
     Ok(())
@@ -325,7 +265,7 @@ const MISSING: [(&[u8], &[u8], &str); 3] = [
 fn a_missing_file_is_named_and_stays_missing(rt: HostRuntime) -> Result<(), Fail> {
     let _ = fs::remove_dir_all(&rt, "mt_server_tests_missing");
     let new = "mt_server --workers 1 --store mt_server_tests_missing --create 7:1";
-    for (plain, odd, missing) in MISSING {
+    for &(plain, odd, missing) in &MISSING {
         expect_told(&rt, rt.alloc(), new, "0: ");
         fs::write(&rt, "mt_server_tests_missing/wal-00", plain)?;
         fs::write(&rt, "mt_server_tests_missing/wal-00-1", odd)?;
@@ -387,20 +327,20 @@ fn a_store_comes_back_from_its_files(rt: HostRuntime) {
     let new = "mt_server --workers 1 --store mt_server_tests_files --sessions 1 --create 7:100";
     serve(&rt, rt.alloc(), new, &[OPEN, PUT, SETTLE_6]);
     expect_file(&rt, "mt_server_tests_files/wal-00", &[LOG]);
-    for path in BESIDE_THE_LOG {
+    for &path in &BESIDE_THE_LOG {
         expect_file(&rt, path, &[SPARE]);
         assert!(rt; fs::remove_file(&rt, path).is_ok());
     }
     let again = "mt_server --workers 1 --store mt_server_tests_files --sessions 1 7:100";
     let OpenStore { store, folder } = opened(&rt, rt.alloc(), again);
     expect_file(&rt, "mt_server_tests_files/wal-00", &[&LOG[..54], RESUME]);
-    for path in BESIDE_THE_LOG {
+    for &path in &BESIDE_THE_LOG {
         expect_file(&rt, path, &[SPARE]);
     }
     drop(serve_told(&rt, rt.alloc(), store, again, &[OPEN, GET]));
     drop(folder);
     let [even, odd, _, _] = BESIDE_THE_LOG;
-    for (before, after) in WITHOUT_A_LOG {
+    for &(before, after) in &WITHOUT_A_LOG {
         for path in [even, odd] {
             assert!(rt; fs::write(&rt, path, before).is_ok());
         }

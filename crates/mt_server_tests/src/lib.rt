@@ -19,6 +19,8 @@ mod folders;
 #[cfg(test)]
 mod hosts;
 #[cfg(test)]
+mod loops;
+#[cfg(test)]
 mod servers;
 #[cfg(test)]
 mod stores;

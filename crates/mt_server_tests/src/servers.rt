@@ -38,12 +38,15 @@ const SCENES: [(Parts, u8, u8); 7] = [
     ([&[], &[], &[OPEN, PUT, REMOVE, REMOVE_NONE], LACKS], 4, 0),
     // One puts a pair and scans it, and removes it again.
     ([&[OPEN, PUT, SCAN], &[], &[REMOVE, SCAN_NONE], LACKS], 5, 0),
-    ([&[], &[], &[OPEN, BAD_FRAME], LACKS], 1, 1),
     // One leaves inside a frame.
     ([&[], &[], &[OPEN, PUT_CUT], LACKS], 1, 1),
     // One leaves with a reply unread, so that its connection is reset.
     ([&[], &[], &[OPEN_UNREAD], LACKS], 1, 1),
+    ([&[], &[], &[OPEN, BAD_FRAME], LACKS], 1, 1),
 ];
+
+// A loop doesn't wait for what comes after a bad frame.
+const SCENES_OF_A_LOOP: usize = 6;
 
 // Whether the first client is told what it should be, and the second one beside it.
 fn begins(scene: Scene, first: &TcpStream, second: &TcpStream) -> io::Result<bool> {
@@ -65,6 +68,8 @@ fn play(scene: Scene, first: TcpStream, second: TcpStream) -> io::Result<bool> {
 pub(crate) const TWO_WORKERS: &str = "mt_server --port 0 --workers 2 --sessions 2 7:100";
 
 const ONE_WORKER: &str = "mt_server --port 0 --workers 1 --sessions 2 7:100";
+
+const ONE_LOOP: &str = "mt_server --port 0 --workers 1 --connections 2 --sessions 2 7:100";
 
 const THREE_SESSIONS: &str = "mt_server --port 0 --workers 2 --sessions 3 7:100";
 
@@ -105,11 +110,19 @@ fn expect_told(rt: &impl Abort, alloc: Global, told: &str, port: u16, wanted: &s
 #[test]
 fn servers_serve_their_clients(rt: HostRuntime) -> Result<(), Fail> {
     let alloc = rt.alloc();
-    for (parts, answers, others) in SCENES {
-        let line = if others == 0 { TWO_WORKERS } else { ONE_WORKER };
+    for (place, (parts, answers, others)) in SCENES.iter().enumerate() {
+        let line = if *others == 0 {
+            TWO_WORKERS
+        } else {
+            ONE_WORKER
+        };
         let wanted = format!(in alloc; "sessions 2 answers {answers}\n{others}")?;
         let store = store_without_logs(&rt, alloc);
-        serve_scene(&rt, alloc, line, store, Scene(parts), wanted.as_str());
+        serve_scene(&rt, alloc, line, store, Scene(*parts), wanted.as_str());
+        if place < SCENES_OF_A_LOOP {
+            let store = store_without_logs(&rt, alloc);
+            serve_scene(&rt, alloc, ONE_LOOP, store, Scene(*parts), wanted.as_str());
+        }
     }
     // The listener fails after two of three connections, and still both are answered to their end.
     let store = store_without_logs(&rt, alloc);

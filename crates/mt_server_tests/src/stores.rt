@@ -141,7 +141,13 @@ pub(crate) type Served<D> = (Vec<u8>, Result<Ending<D>, ServerFault>);
 
 // Serves to the end, with the options of a line.
 fn serve_all<
-    R: Threads + Wait + Clock + Log + Abort + Sync,
+    R: Threads
+        + Wait
+        + Clock
+        + Log
+        + Net<Listener = TcpListener, Stream = TcpStream>
+        + Abort
+        + Sync,
     D: Disk + Drop + Send,
     G: Digests + Drop + Send,
 >(
@@ -165,7 +171,13 @@ fn serve_all<
 
 /// A server over a store with the options of a line, while its clients play, who are told what they should be.
 pub(crate) fn serve_beside<
-    R: Threads + Wait + Clock + Log + Abort + Sync,
+    R: Threads
+        + Wait
+        + Clock
+        + Log
+        + Net<Listener = TcpListener, Stream = TcpStream>
+        + Abort
+        + Sync,
     D: Disk + Drop + Send,
     G: Digests + Drop + Send,
     F: FnOnce() -> io::Result<bool>,
@@ -224,7 +236,7 @@ const SETTLES_TWICE: &[Told] = &[OPEN, PUT, SETTLE_FAILS, SETTLE_6];
 // fails once loses nothing.
 #[test]
 fn what_was_put_is_in_the_log(rt: HostRuntime) {
-    for (told, fail) in KEPT {
+    for &(told, fail) in &KEPT {
         let store = new_store(&rt, rt.alloc(), 1, &[fail]);
         let left = serve_told(&rt, rt.alloc(), store, ONE_SESSION, told);
         assert_eq!(rt; image_of(&rt, rt.alloc(), left).as_slice(), LOG, "{fail}");
@@ -252,7 +264,7 @@ const AGAIN: [(&[u8], &[Told]); 2] = [
 // A server starts twice from a log, and each time its client is told the same. The log grows behind its last batch.
 #[test]
 fn what_was_put_is_there_again_and_numbers_stay_given(rt: HostRuntime) {
-    for (log, told) in AGAIN {
+    for &(log, told) in &AGAIN {
         let mut image = log.to_vec(rt.alloc()).expect(&rt, "memory");
         for _ in 0..2u32 {
             let store = recovered(&rt, rt.alloc(), &image);

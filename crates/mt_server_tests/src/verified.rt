@@ -101,7 +101,7 @@ fn expect_row<R: Host + Files<File = File> + Alloc>(
 fn a_store_that_is_read_stays_as_it_was(rt: HostRuntime) {
     let alloc = rt.alloc();
     let _ = fs::remove_dir_all(&rt, FOLDER);
-    for row in ROWS {
+    for &row in &ROWS {
         assert!(rt; expect_row(&rt, alloc, row).is_ok());
     }
     let line = "mt_server --workers 1 --verify mt_server_tests_verified 7:1";

@@ -33,18 +33,20 @@ fn fault_of(rt: &impl Abort, alloc: Global, line: &str) -> OptionsFault {
     }
 }
 
-// The words after the program's, and what they ask for: the port, workers, sessions and tenants; a store's folder, whether it is
-// made anew, and when a checkpoint is written and all is settled; and the folder of a store that is only read, which is named by a
-// line of a start, with its other options.
-const READ: [&str; 8] = [
-    "--port 0 --workers 64 --sessions 2 7:100 8:1 => 0 64 2 2; no store; ",
-    "4294967295:1048576 => 7411 4 0 1; no store; ",
-    "--store here 7:1 => 7411 4 0 1; here false 0 0 0; ",
-    "7:1 --create --store=a/b => 7411 4 0 1; a/b true 0 0 0; ",
-    "--checkpoint 0 --store here --checkpoint-bytes 1 7:1 => 7411 4 0 1; here false 0 1 0; ",
-    "--store here --checkpoint=4294967295 7:1 --create => 7411 4 0 1; here true 4294967295 0 0; ",
-    "--store here --settle-every 4294967295 --checkpoint-bytes 18446744073709551615 7:1 => 7411 4 0 1; here false 0 18446744073709551615 4294967295; ",
-    "--workers 2 --verify a/b --checkpoint 5 --settle-every 1 7:1 => 7411 2 0 1; no store; a/b",
+// The words after the program's, and what they ask for: the port, workers, connections of each, silent seconds, sessions and
+// tenants; a store's folder, whether it is made anew, and when a checkpoint is written and all is settled; and the folder of a
+// store that is only read, which is named by a line of a start, with its other options.
+const READ: [&str; 10] = [
+    "--port 0 --workers 64 --sessions 2 7:100 8:1 => 0 64 1 0 2 2; no store; ",
+    "4294967295:1048576 => 7411 4 1 0 0 1; no store; ",
+    "--store here 7:1 => 7411 4 1 0 0 1; here false 0 0 0; ",
+    "7:1 --create --store=a/b => 7411 4 1 0 0 1; a/b true 0 0 0; ",
+    "--checkpoint 0 --store here --checkpoint-bytes 1 7:1 => 7411 4 1 0 0 1; here false 0 1 0; ",
+    "--store here --checkpoint=4294967295 7:1 --create => 7411 4 1 0 0 1; here true 4294967295 0 0; ",
+    "--store here --settle-every 4294967295 --checkpoint-bytes 18446744073709551615 7:1 => 7411 4 1 0 0 1; here false 0 18446744073709551615 4294967295; ",
+    "--connections 65536 --idle 4294967 7:1 => 7411 4 65536 4294967 0 1; no store; ",
+    "--idle 0 --connections 2 --store=here 7:1 --workers 1 => 7411 1 2 0 0 1; here false 0 0 0; ",
+    "--workers 2 --verify a/b --checkpoint 5 --settle-every 1 7:1 => 7411 2 1 0 0 1; no store; a/b",
 ];
 
 // What options ask for, in the words of `READ`.
@@ -63,8 +65,8 @@ fn told_of(alloc: Global, options: &Options) -> Result<String, AllocError> {
         .unwrap_or("");
     let tenants = options.tenants.len();
     Ok(format!(in alloc;
-        "{} {} {} {tenants}; {store}; {verify}",
-        options.port, options.workers, options.sessions
+        "{} {} {} {} {} {tenants}; {store}; {verify}",
+        options.port, options.workers, options.connections, options.idle, options.sessions
     )?)
 }
 
@@ -82,7 +84,7 @@ fn words_are_read(rt: HostRuntime) -> Result<(), Fail> {
 
 // The words after the program's, the status, and how what is said begins. A fault names the word, what is wrong with it,
 // and its bounds.
-const REFUSED: [&str; 38] = [
+const REFUSED: [&str; 43] = [
     "7:0 => 2: E7: '7:0': a quota is 1 to 1048576 pairs",
     "8:1 7:1048577 => 2: E7: '7:1048577': a quota is 1 to 1048576 pairs",
     "--store here 7:0 => 2: E7: '7:0': a quota is 1 to 1048576 pairs",
@@ -105,10 +107,15 @@ const REFUSED: [&str; 38] = [
     "--create --verify here 7:1 => 2: --verify only reads a store: give it in place of --store, and without --create",
     "--verify here --checkpoint 1 7:0 => 2: E7: '7:0': a quota is 1 to 1048576 pairs",
     "--verify 7:1 => 2: error: ",
+    "--idle 1 7:0 => 2: --idle ends silent connections of workers that serve several each, and --connections C is 1",
+    "--create --idle 5 --connections 1 7:1 => 2: --idle ends silent connections of workers that serve several each, and --connections C is 1",
     "--port 65536 7:1 => 2: error: invalid value '65536' for '--port <P>': 65536 is not in 0..=65535",
     "--port x 7:1 => 2: error: invalid value 'x' for '--port <P>': ",
     "--workers 0 7:1 => 2: error: invalid value '0' for '--workers <N>': 0 is not in 1..=64",
     "--workers 65 7:1 => 2: error: invalid value '65' for '--workers <N>': 65 is not in 1..=64",
+    "--connections 0 7:1 => 2: error: invalid value '0' for '--connections <C>': 0 is not in 1..=65536",
+    "--connections 65537 7:1 => 2: error: invalid value '65537' for '--connections <C>': 65537 is not in 1..=65536",
+    "--connections 2 --idle 4294968 7:1 => 2: error: invalid value '4294968' for '--idle <S>': 4294968 is not in 0..=4294967",
     "--sessions 4294967296 7:1 => 2: error: invalid value '4294967296' for '--sessions <S>': 4294967296 is not in 0..=4294967295",
     "--store here --checkpoint 4294967296 7:1 => 2: error: invalid value '4294967296' for '--checkpoint <K>': 4294967296 is not in 0..=4294967295",
     "--store here --checkpoint-bytes 18446744073709551616 7:1 => 2: error: invalid value '18446744073709551616' for '--checkpoint-bytes <B>': ",

@@ -81,8 +81,8 @@ fn each_worker_has_a_log_of_its_own(rt: HostRuntime) {
     assert!(&rt; crossed || told == (b"\x00k".as_slice(), b"\x01l".as_slice()));
 }
 
-// Opens the sessions of all clients before the first of them asks for more; whether each is told what it should be.
-fn are_answered(clients: &[TcpStream]) -> io::Result<bool> {
+/// Opens the sessions of all clients before the first of them asks for more; whether each is told what it should be.
+pub(crate) fn are_answered(clients: &[TcpStream]) -> io::Result<bool> {
     let mut is_right = true;
     for client in clients {
         is_right = is_told(client, OPEN)? && is_right;

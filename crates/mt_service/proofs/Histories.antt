@@ -1,11 +1,11 @@
 -- The history of which all callers came back is one, and one order explains it: for the server.
-use Rattle.std.{proofs.Common.{◌≡◌, ◌∙◌, ℕ, ◌+◌, ◌%◌, arith, inl, inr, Bool, List, [], ◌∷◌, length, Option, Some, None, Result, Ok, Err, IfOk, OnOk, refl, sym, ap, subst}, proofs.lemmas.Option.none-some, proofs.lemmas.List.append-nil, proofs.lemmas.List.Sums.sum_by-cons, specs.List.{AllByRecursion, AllZip, flat_map, sum_by}}
+use Rattle.std.{proofs.Common.{◌≡◌, ◌≢◌, ◌∙◌, ℕ, ◌+◌, ◌%◌, arith, inl, inr, Bool, List, [], ◌∷◌, length, Option, Some, None, Result, Ok, Err, IfOk, OnOk, refl, sym, ap, subst}, proofs.lemmas.Option.none-some, proofs.lemmas.List.append-nil, proofs.lemmas.List.Sums.sum_by-cons, specs.List.{AllByRecursion, AllZip, flat_map, sum_by}}
 use mathlib.Core.List.{IsPrefix}
 use Rattle.mt_disk.specs.Disk.{DiskState}
 use Rattle.mt_rows.specs.{declared.command.Command.Command, declared.reply.Reply.Reply, declared.refusal.Refusal.Refusal}
 use Rattle.mt_runs.specs.declared.event.Answer.{Answer}
 use Rattle.mt_state.specs.Views.{StateView}
-use Rattle.mt_history.{specs.Legal.last_from, proofs.Fronts.{prefix_trans}}
+use Rattle.mt_history.{proofs.Fronts.{prefix_trans}}
 use Rattle.mt_book.{specs.{declared.calls.CallFault.CallFault, declared.shared.Clerk.Clerk, Periods.Period, OneRun.AreTold, Keeping.IsWhole, Serves.clerk_of}, proofs.OneRuns.one_run}
 use Rattle.mt_orders.proofs.{Explaining.explained, Calling.{calls_views, chain_front}}
 use Rattle.mt_crew.specs.{Servings.IsServed, declared.crew.Served.Served}
@@ -13,8 +13,8 @@ use Rattle.mt_caller.specs.{declared.caller.CallerFault.CallerFault, Exchanges.{
 use Rattle.mt_options.specs.declared.tenants.TenantQuota.{TenantQuota}
 use Rattle.mt_settle.specs.Turns.{Turn}
 use Rattle.mt_stored.specs.{declared.shared.SharedLogs.SharedLogs, Checkpoints.Scanner, Digests.DigestCall, Keeping.{Kept, GivesTurns}}
-use Rattle.mt_service.specs.{declared.callers.DeskCaller.DeskCaller, declared.workers.SessionWorker.SessionWorker, Sessions.{AsksBook, IsSession, HaveOneHistory, SeesFront, LogsSeeFront, SeeFronts, acts, turns, logs_of, asker_of, clerks_in, answers_in, all_clerks}, Beginnings.{IsNewWorker, IsNewTurner}, Workers.EachAt, Asking.{Asker, AsksOpened, KeepsAnswer, OpensTenant}, Turning.Turning, Turners.Leaves}
-use Rattle.mt_service.proofs.{Sessions.served_inside, SettledNumbers.{turn_front, settle_front}, TurnFronts.any_front, TurnsInside.leaves_inside}
+use Rattle.mt_service.specs.{declared.callers.DeskCaller.DeskCaller, declared.workers.SessionWorker.SessionWorker, Sessions.{AsksBook, IsSession, SeesFront, LogsSeeFront, SeeFronts, acts, turns, logs_of, asker_of, clerks_in, answers_in}, Histories.HaveOneHistory, Loops.{Resumes, IsLed}, Beginnings.{IsNewWorker, IsNewTurner}, Workers.EachAt, Asking.{Asker, AsksOpened, KeepsAnswer, OpensTenant}, Turning.Turning, Turners.Leaves}
+use Rattle.mt_service.proofs.{Sessions.served_inside, Deeds.{all_led_inside, resumed_front}, SettledNumbers.{turn_front, settle_front}, TurnFronts.any_front, TurnsInside.leaves_inside}
 
 no_told : (s : StateView) (log : List StateView) → AreTold (λ k. None) s log
 no_told s [] = tt
@@ -146,14 +146,15 @@ module _ (L J R : Type 0) {D : Type 0} (is_honest : D → Bool) (state : D → D
 
   -- all that the sessions of these workers were told stands in one history from the state that the first clerk has seen, with all that a turner did
   pub one_history : {G : Type 0} (calls : G → DigestCall → G → Type 0) (digests : G) (tenants : List TenantQuota) (one turner logs : Clerk L J) (begun : List Worker) (served : List (Served Worker))
-      (answers workers log_count next : ℕ) → IsWhole (λ (c : Clerk L J). c.mark) (one ∷ turner ∷ logs ∷ flat_map clerks_in served) answers
-      → AllZip (IsServed (λ (old : Worker) right (new : Worker). IsSession (AsksBook is_honest state failures was_refused) right old.caller new.caller)) begun served
+      (answers workers connections log_count next : ℕ) → IsWhole (λ (c : Clerk L J). c.mark) (one ∷ turner ∷ logs ∷ flat_map clerks_in served) answers
+      → (connections ≡ 1 → AllZip (IsServed (λ (old : Worker) right (new : Worker). IsSession (AsksBook is_honest state failures was_refused) right old.caller new.caller)) begun served)
+      → (connections ≢ 1 → AllZip (λ (old : Worker) (done : Served Worker). IsLed is_honest state failures was_refused old done.worker) begun served)
       → length begun ≡ workers → EachAt begun (IsNewWorker log_count tenants)
       → (made : Turning (Clerk L J) (SharedLogs L J R D) G) → IsNewTurner log_count next digests made → (desk : Scanner (Clerk L J)) (left : SharedLogs L J R D)
       → Leaves acts is_honest state failures (turns is_honest state failures was_refused) logs_of calls tenants made desk left → turner ≡ desk.desk → logs ≡ left.book.clerk
       → answers ≡ desk.counted + answers_in served
-      → (first : StateView) → one.mark.log ≡ first ∷ [] → one.mark.made ≡ 0 → HaveOneHistory L J R is_honest state failures was_refused calls digests tenants workers log_count next first
-  one_history calls digests tenants one turner logs begun served answers workers log_count next w z many new made fresh desk left turned same_clerk same_logs shares first is none =
+      → (first : StateView) → one.mark.log ≡ first ∷ [] → one.mark.made ≡ 0 → HaveOneHistory L J R is_honest state failures was_refused calls digests tenants workers connections log_count next first
+  one_history calls digests tenants one turner logs begun served answers workers connections log_count next w z led many new made fresh desk left turned same_clerk same_logs shares first is none =
       let whole = w.first ∷ w.log in
       let P : Clerk L J → Type 0 = SeesFront whole in
       let after_one = tail P one (turner ∷ logs ∷ flat_map clerks_in served) w.seen in
@@ -163,7 +164,7 @@ module _ (L J R : Type 0) {D : Type 0} (is_honest : D → Bool) (state : D → D
       let logs_front : LogsSeeFront whole left = subst P same_logs (head P logs (flat_map clerks_in served) after_turner) in
       let all = one_run (λ k. None) w.first w.log w.legal (no_told w.first w.log) in
       let same : w.first ≡ first = head_is first w.first w.log one.mark.log is w.seen.0 in
-      subst (λ (s : StateView). HaveOneHistory L J R is_honest state failures was_refused calls digests tenants workers log_count next s) same (record {
+      subst (λ (s : StateView). HaveOneHistory L J R is_honest state failures was_refused calls digests tenants workers connections log_count next s) same (record {
         log = w.log;
         legal = w.legal;
         run = all.run;
@@ -173,8 +174,11 @@ module _ (L J R : Type 0) {D : Type 0} (is_honest : D → Bool) (state : D → D
         many = many;
         new = new;
         served = served;
-        each =
-            served_inside (AsksBook is_honest state failures was_refused) (SeeFronts whole) (seen_before L J R D is_honest state failures was_refused whole) (λ (x : Worker). x.caller) begun served z
+        alone = λ is.
+            served_inside (AsksBook is_honest state failures was_refused) (SeeFronts whole) (seen_before L J R D is_honest state failures was_refused whole) (λ (x : Worker). x.caller) begun served (z is)
+            (fronts whole served rest);
+        sharing = λ more.
+            all_led_inside (AsksBook is_honest state failures was_refused) Resumes (SeeFronts whole) (seen_before L J R D is_honest state failures was_refused whole) (resumed_front whole) (λ (x : Worker). x.caller) begun served (led more)
             (fronts whole served rest);
         turner = made;
         fresh = fresh;

@@ -1,5 +1,6 @@
 pub mod AccountLemmas
 pub mod CheckpointScans
+pub mod Deeds
 pub mod Histories
 pub mod LineLemmas
 pub mod LogsInside

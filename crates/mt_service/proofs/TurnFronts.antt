@@ -1,10 +1,11 @@
 -- Whatever turn a log had, what the clerk of the logs had seen before it is a beginning of what it has seen then.
-use Rattle.std.proofs.{Common.{◌≡◌, inl, inr, ℕ, Bool, [], Ok, Err, sym, subst}, lemmas.List.append-nil}
+use Rattle.std.proofs.{Common.{◌≡◌, inl, inr, ⊎_elim, ℕ, Bool, [], Ok, Err, sym, subst}, lemmas.List.append-nil}
 use mathlib.Core.List.{IsPrefix}
 use Rattle.mt_rows.specs.declared.refusal.Refusal.{Refusal}
 use Rattle.mt_disk.specs.Disk.{DiskState}
 use Rattle.mt_settle.specs.Turns.{Turn, BroughtUp, BegunNext, GivenUp, Told}
-use Rattle.mt_store_logs.specs.{LogTurns.{BringsUp, FailsToBringUp}, Turns.FailsToFlushLog}
+use Rattle.mt_book.specs.{Happens.{Adds, Acted}, Periods.look_period, declared.desks.Look.Look}
+use Rattle.mt_store_logs.specs.{declared.store_log.StoreLog.StoreLog, Places.worker_of, LogTurns.{BringsUp, FailsToBringUp}, Turns.FailsToFlushLog}
 use Rattle.mt_stored.specs.{Begins.{BringsUpAndBegins, FailsToBringUpAndBegin}, Shared.{Seen, gives_batch, UptoSteps, DoesShared}}
 use Rattle.mt_service.proofs.SettledNumbers.{turn_front, down_front as not_up_front}
 

@@ -4,7 +4,9 @@ pub mod Beginnings
 pub mod CheckpointScans
 pub mod Faults
 pub mod FolderDigests
+pub mod Histories
 pub mod Lines
+pub mod Loops
 pub mod ServedStore
 pub mod Sessions
 pub mod StoreFaults

@@ -1,20 +1,17 @@
--- What a worker's sessions asked its caller, and the history in which all that they were told stands.
-use Rattle.std.specs.{Prelude.{◌≡◌, ◌+◌, ℕ, Bool, true, false, List, [], ◌∷◌, length, min}, List.{AllZip, flat_map, sum_by}}
+-- What a worker's sessions asked its caller, and what was seen of a history meanwhile.
+use Rattle.std.specs.{Prelude.{◌≡◌, ℕ, Bool, true, false, List, [], ◌∷◌, length, min}, List.{flat_map, sum_by}}
 use mathlib.Core.List.{IsPrefix}
 use Rattle.mt_rows.specs.Rows.{Bytes}
 use Rattle.mt_disk.specs.Disk.{DiskState}
 use Rattle.mt_state.specs.Views.{StateView}
-use Rattle.mt_history.specs.{Legal.{Along, last_from}, Views.MarkView}
-use Rattle.mt_book.specs.{declared.passes.Pass.Pass, declared.shared.Clerk.Clerk, Happens.{Happening, Leads}, Periods.Period, OneRun.Through, Serves.{Serves, clerk_of}}
-use Rattle.mt_orders.specs.Explained.{IsExplained}
-use Rattle.mt_crew.specs.{Servings.IsServed, declared.crew.Served.Served}
+use Rattle.mt_book.specs.{declared.passes.Pass.Pass, declared.shared.Clerk.Clerk, Periods.Period, Serves.{Serves, clerk_of}}
+use Rattle.mt_crew.specs.declared.crew.Served.{Served}
 use Rattle.mt_caller.specs.Exchanges.{CallerRelation}
 use Rattle.mt_session.specs.{Sessions.Transcript, Endings.AsksAtMostOne}
 use Rattle.mt_options.specs.declared.tenants.TenantQuota.{TenantQuota}
 use Rattle.mt_settle.specs.Turns.{Turn}
-use Rattle.mt_store_logs.specs.declared.store_log.StoreLog.{StoreLog}
-use Rattle.mt_stored.specs.{NextTurns.IsNextTurn, declared.shared.SharedLogs.SharedLogs, Checkpoints.Scanner, Digests.DigestCall, Keeping.keeping, Shared.{LearnsSeen, DoesShared}}
-use Rattle.mt_service.specs.{declared.callers.DeskCaller.DeskCaller, declared.workers.SessionWorker.SessionWorker, Asking.{Asker, asker, AsksDesk}, Beginnings.{IsNewWorker, IsNewTurner}, Workers.EachAt, Turning.Turning, Turners.Leaves}
+use Rattle.mt_stored.specs.{declared.shared.SharedLogs.SharedLogs, Checkpoints.Scanner, Digests.DigestCall, Keeping.keeping, Shared.{LearnsSeen, DoesShared}}
+use Rattle.mt_service.specs.{declared.callers.DeskCaller.DeskCaller, declared.workers.SessionWorker.SessionWorker, Asking.{Asker, asker, AsksDesk}, Turning.Turning, Turners.Leaves}
 
 -- a caller between two exchanges
 abbrev pub asker_of : {L R D S K : Type 0} → DeskCaller L R D S K → Asker D S
@@ -85,33 +82,3 @@ abbrev pub LeavesOver : {L J R D G : Type 0} (is_honest : D → Bool) (state : D
     → Turning (Clerk L J) (SharedLogs L J R D) G → Scanner (Clerk L J) → SharedLogs L J R D → Type 0
 LeavesOver is_honest state failures was_refused calls tenants history turner desk logs =
     Leaves (Within (SeesFront history) acts) is_honest state failures (Within (LogsSeeFront history) (turns is_honest state failures was_refused)) logs_of calls tenants turner desk logs
-
--- One history from a state on. There is a run through it, and one order explains whichever there is. So many new workers, with so many logs, were led by sessions, and
--- each exchange of these was made over a beginning of the history. A new turner, whose first turn goes to this generation, was led to what is left of it. Each of its periods, so each look and scan, was made over
--- one too. These clerks added each state of the history but the first, and but a last look of each and of the clerk that began it. So many answers were taken as the
--- passes came back with.
-pub record HaveOneHistory (L J R : Type 0) {D G : Type 0} (is_honest : D → Bool) (state : D → DiskState) (failures : D → ℕ) (was_refused : D → Bool) (calls : G → DigestCall → G → Type 0) (digests : G) (tenants : List TenantQuota) (workers log_count next : ℕ) (first : StateView) : Type 0 where
-  pub log : List StateView
-  pub legal : Along Leads first log
-  pub run : List Happening
-  pub through : Through first log run
-  pub explained : (other : List Happening) → Through first log other → IsExplained first log other
-  pub begun : List (SessionWorker L J R D)
-  pub many : length begun ≡ workers
-  pub new : EachAt begun (IsNewWorker log_count tenants)
-  pub served : List (Served (SessionWorker L J R D))
-  pub each : AllZip (IsServed (IsSessionOver is_honest state failures was_refused (first ∷ log))) begun served
-  pub turner : Turning (Clerk L J) (SharedLogs L J R D) G
-  pub fresh : IsNewTurner log_count next digests turner
-  pub desk : Scanner (Clerk L J)
-  pub logs : SharedLogs L J R D
-  pub turned : LeavesOver is_honest state failures was_refused calls tenants (first ∷ log) turner desk logs
-  pub seen : SeesFront (first ∷ log) desk.desk × LogsSeeFront (first ∷ log) logs
-  pub added : length log ≡ sum_by (λ (c : Clerk L J). c.mark.made) (all_clerks desk.desk logs.book.clerk served) + length (all_clerks desk.desk logs.book.clerk served) + 1
-  pub taken : (last_from first log).answers ≡ desk.counted + answers_in served
-
--- so of these logs, which tell to which generation the turner's first turn goes
-abbrev pub HaveOneHistoryOf : (L J R : Type 0) {D G : Type 0} (is_honest : D → Bool) (state : D → DiskState) (failures : D → ℕ) (was_refused : D → Bool) (calls : G → DigestCall → G → Type 0) → G
-    → List TenantQuota → ℕ → List (StoreLog D) → StateView → Type 0
-HaveOneHistoryOf L J R is_honest state failures was_refused calls digests tenants workers logs first =
-    (next : ℕ) × IsNextTurn logs next × HaveOneHistory L J R is_honest state failures was_refused calls digests tenants workers (length logs) next first

@@ -7,6 +7,7 @@ use crate::turns::Turns;
 use log::Log;
 use mt_book::{CallFault, Desk, NoGate, Pass, Runner, call};
 use mt_disk::Disk;
+use mt_loop::Sharing;
 use mt_options::{TenantQuota, is_listed};
 use mt_rows::{Command, Refusal, Reply};
 use mt_runs::Answer;
@@ -152,6 +153,29 @@ impl<
         let settled = self.keeper.settle(self.rt)?;
         self.turns.count_settled(self.rt, settled);
         Ok(settled)
+    }
+}
+
+/// Sessions share it: whichever has its turn has its own tenant opened.
+impl<
+    L: Ledger,
+    R: Wait + Clock + Log,
+    D: Desk<L> + Drop,
+    S: Logs + Learns<D> + Drop,
+    K: Disk + Drop,
+> Sharing for DeskCaller<'_, L, R, D, S, K> {
+    ghost use Rattle.mt_service.specs.Loops.{Resumes};
+
+    ghost opened = { λ caller. caller.opened };
+
+    ghost resumes = { λ old new. Resumes old new };
+
+    fn opened(&self) -> Option<u32> {
+        self.opened
+    }
+
+    fn resume(&mut self, tenant: Option<u32>) {
+        self.opened = tenant;
     }
 }
 

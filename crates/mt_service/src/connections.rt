@@ -1,7 +1,8 @@
-//! A connection's socket: how it is set up, and how it is left.
+//! Sockets: how a server listens, and how a connection's socket is set up and left.
 
+use mt_options::Options;
 use std::io::{self, Read};
-use std::net::{Shutdown, TcpStream};
+use std::net::{Net, Shutdown, SocketAddr, TcpListener, TcpStream};
 use std::time::{Clock, Duration, Instant};
 
 /// A client that takes nothing of its replies for so many seconds is given up.
@@ -12,6 +13,21 @@ const LINGER_SECONDS: u64 = 1;
 
 /// And for so many bytes at most.
 const LINGER_BYTES: usize = 65_536;
+
+/// A listener at the port of 127.0.0.1 that the options name. With one connection at a time, the system keeps up to 128 that
+/// wait to be accepted, else as many as it ever does.
+pub fn listen<R: Net<Listener = TcpListener, Stream = TcpStream>>(
+    rt: &R,
+    options: &Options,
+) -> io::Result<TcpListener> {
+    if options.connections == 1 {
+        return TcpListener::bind(rt, ("127.0.0.1", options.port));
+    }
+    let address = SocketAddr::from(([127, 0, 0, 1], options.port));
+    let listener = TcpListener::from(mio::net::TcpListener::bind(rt, address)?);
+    listener.set_nonblocking(false)?;
+    Ok(listener)
+}
 
 /// Replies are sent at once, and a client that takes none is given up. Where the system refuses
 /// either, the session is right all the same, and slower or longer.

@@ -3,6 +3,7 @@
 ghost use Rattle.mt_service.specs.{declared.faults.ServerFault.TheVariants.{Memory as MemoryFault}, Faults.status_of};
 ghost use Rattle.std.specs.Prelude.{◌≡◌};
 
+use mt_loop::LoopFault;
 use mt_rows::Refusal;
 use mt_store_files::FolderFault;
 use std::alloc::{AllocError, AllocFailed};
@@ -83,5 +84,19 @@ impl<T: Drop> From<AllocFailed<T>> for ServerFault {
 
     fn from(_e: AllocFailed<T>) -> ServerFault {
         ServerFault::Memory
+    }
+}
+
+/// `Memory` if memory was refused, else `Socket`.
+impl From<LoopFault> for ServerFault {
+    ghost use Rattle.mt_service.specs.Faults.{IsOfServing};
+
+    ghost from_gives = { λ _ fault. IsOfServing fault };
+
+    fn from(fault: LoopFault) -> ServerFault {
+        match fault {
+            LoopFault::Memory => ServerFault::Memory,
+            LoopFault::System(error) => ServerFault::Socket(error),
+        }
     }
 }

@@ -7,12 +7,14 @@
 //! turns of all logs that are due, as `specs/Turning.antt` says.
 #![tactic(auto)]
 
+mod accepting;
 mod accounts;
 pub mod callers;
 mod connections;
 pub mod faults;
 pub mod folder_digests;
 pub mod laws;
+pub mod loops;
 mod progress;
 pub mod running;
 pub mod served_store;
@@ -23,9 +25,11 @@ mod warnings;
 pub mod workers;
 
 pub use callers::DeskCaller;
+pub use connections::listen;
 pub use faults::ServerFault;
 pub use folder_digests::FolderDigests;
 pub use laws::a_settled_number_covers_each_answer_that_was_seen;
+pub use loops::{LoopWorker, Looper, Workers};
 pub use running::{Ending, Totals, run_server, totals_of};
 pub use served_store::{OpenStore, open_store};
 pub use turners::Turner;

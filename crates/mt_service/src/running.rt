@@ -1,16 +1,17 @@
 //! The server: from a listener to the sum of its answers.
 
-ghost use Rattle.std.specs.{Prelude.{◌≡◌, ◌+◌, ◌<◌, ◌^◌, [], ◌∷◌, ◌++◌, IfOk, IfErr, OnOk, OnErr, length, vec_len, map}, List.{flat_map, sum_by, AllZip}, Io.KnownBytes.Appends};
+ghost use Rattle.std.specs.{Prelude.{◌≡◌, ◌+◌, ◌<◌, ◌^◌, [], ◌∷◌, ◌++◌, IfOk, IfErr, OnOk, OnErr, length, vec_len, map}, List.{flat_map, sum_by}, Io.KnownBytes.Appends};
 ghost use Rattle.mt_state.specs.Views.{StateView};
 ghost use Rattle.mt_book.specs.{declared.passes.Pass.Pass, declared.shared.Clerk.Clerk, Names.AreNames, Keeping.{IsUnasked, IsWhole}};
-ghost use Rattle.mt_crew.specs.{declared.crew.Served.Served, Servings.IsServed};
+ghost use Rattle.mt_crew.specs.declared.crew.Served.{Served};
 ghost use Rattle.mt_streams.specs.Failures.{Failed, NoFewer};
 ghost use Rattle.mt_service.specs.{declared.workers.SessionWorker.SessionWorker, Faults.{IsOfWriting, IsOfServing, HasCause}};
-ghost use Rattle.mt_service.specs.{Workers.{every_of, bytes_of, number_of, IsWired, EachAt}, Beginnings.{IsNewWorker, IsNewTurner}, Sessions.{HaveOneHistory, HaveOneHistoryOf, pass_in, clerks_in}, Turners.{turner_of, Leaves}, Lines.{first_line, last_line, Begins, SaysAll, SaysPart}};
+ghost use Rattle.mt_service.specs.{Workers.{every_of, bytes_of, number_of, IsWired, EachAt}, Beginnings.{IsNewWorker, IsNewTurner}, Sessions.{pass_in, clerks_in}, Histories.{HaveOneHistory, HaveOneHistoryOf}, Loops.{AreServed, count_of}, Turners.{turner_of, Leaves}, Lines.{first_line, last_line, Begins, SaysAll, SaysPart}};
 ghost use Rattle.mt_stored.specs.{Stores.IsSettled, Checks.IsAtFirst, Checkpoints.scanner};
 
 use crate::callers::DeskCaller;
 use crate::faults::ServerFault;
+use crate::loops::{Looper, Workers, run_workers, workers_with};
 use crate::turners::Turner;
 use crate::turns::Turns;
 use crate::workers::{Held, SessionWorker};
@@ -20,7 +21,7 @@ use mt_book::{
     open_pass,
 };
 use mt_core::State;
-use mt_crew::{Crew, CrewFault, Served, Worker, others_of, run_crew};
+use mt_crew::{Served, Worker, others_of};
 use mt_disk::Disk;
 use mt_history::{Mark, Naming};
 use mt_options::{Options, TenantQuota};
@@ -32,7 +33,7 @@ use mt_stored::{Checks, Digests, Keeper, SharedLogs, Store, locked_logs, unlocke
 use mt_streams::{Sink, write_whole};
 use std::alloc::{AllocError, Global};
 use std::marker::{Send, Sync};
-use std::net::TcpListener;
+use std::net::{Net, TcpListener};
 use std::sync::ledger::Ledger;
 use std::sync::{Mutex, Wait};
 use std::thread::{self, Threads};
@@ -73,7 +74,7 @@ pub fn run_server<L, J, R, W, D, G>(
 where
     L: Ledger + Send + Sync,
     J: Naming + Send + Sync,
-    R: Threads + Wait + Clock + Log + Sync,
+    R: Threads + Wait + Clock + Log + Net + Sync,
     W: Sink,
     D: Disk + Drop + Send,
     G: Digests + Drop + Send,
@@ -81,7 +82,7 @@ where
     requires unasked { IsUnasked store.source.state }
     ensures ok { OnOk result (SaysAll (W.contents out.old) (W.contents out.new) options.now.sessions) }
     ensures settled { IfOk result (λ ending. IsSettled ending.store.source.state ending.store.logs.items) }
-    ensures history { OnOk result (HaveOneHistoryOf L J R D.is_honest D.state D.failures D.was_refused G.does digests options.now.tenants.items options.now.workers store.logs.items store.source.state) }
+    ensures history { OnOk result (HaveOneHistoryOf L J R D.is_honest D.state D.failures D.was_refused G.does digests options.now.tenants.items options.now.workers options.now.connections store.logs.items store.source.state) }
     ensures err { OnErr result (SaysPart (W.contents out.old) (W.contents out.new) options.now.sessions) }
     ensures cause { IfErr result (HasCause (Failed (W.failures out.old) (W.failures out.new))) }
 {
@@ -101,7 +102,7 @@ where
 fn serve_store<
     L: Ledger + Send + Sync,
     J: Naming + Send + Sync,
-    R: Threads + Wait + Clock + Log + Sync,
+    R: Threads + Wait + Clock + Log + Net + Sync,
     D: Disk + Drop + Send,
     G: Digests + Drop + Send,
 >(
@@ -115,7 +116,7 @@ fn serve_store<
 ) -> Result<(Totals, Store<D>), ServerFault>
     requires names { AreNames L.name L.parts J.name J.parts J.book names store.source.state }
     requires unasked { IsUnasked store.source.state }
-    ensures history { OnOk result (HaveOneHistoryOf L J R D.is_honest D.state D.failures D.was_refused G.does digests options.now.tenants.items options.now.workers store.logs.items store.source.state) }
+    ensures history { OnOk result (HaveOneHistoryOf L J R D.is_honest D.state D.failures D.was_refused G.does digests options.now.tenants.items options.now.workers options.now.connections store.logs.items store.source.state) }
     ensures settled { IfOk result (λ served. IsSettled served.1.source.state served.1.logs.items) }
     ensures fault { IfErr result IsOfServing }
 {
@@ -227,12 +228,12 @@ pub(crate) fn say<W: Sink>(out: &mut W, line: &str) -> Result<(), ServerFault>
     }
 }
 
-// Serves the listener's connections by a crew, with a turner beside it, and adds up what they come back with. The turner's first
-// turn goes to this generation. The last turn is made when the crew has ended, if one is due then.
+// Serves the listener's connections by workers, with a turner beside them, and adds up what they come back with. The turner's first
+// turn goes to this generation. The last turn is made when the workers have ended, if one is due then.
 fn serve_all<
     L: Ledger + Send + Sync,
     J: Naming + Send + Sync,
-    R: Threads + Wait + Clock + Log + Sync,
+    R: Threads + Wait + Clock + Log + Net + Sync,
     D: Disk + Drop + Send,
     G: Digests + Drop + Send,
 >(
@@ -248,29 +249,24 @@ fn serve_all<
     next: u64,
 ) -> Result<Totals, ServerFault>
     requires parts { L.parts ≡ 65536 }
-    ensures history { OnOk result ((first : StateView) → mark.log ≡ first ∷ [] → mark.made ≡ 0 → HaveOneHistory L J R D.is_honest D.state D.failures D.was_refused G.does digests options.now.tenants.items options.now.workers (length logs.now) next first) }
+    ensures history { OnOk result ((first : StateView) → mark.log ≡ first ∷ [] → mark.made ≡ 0 → HaveOneHistory L J R D.is_honest D.state D.failures D.was_refused G.does digests options.now.tenants.items options.now.workers options.now.connections (length logs.now) next first) }
     ensures fault { IfErr result IsOfServing }
 {
     let workers = workers_of(rt, alloc, book, logs, turns, options)?;
+    let made = workers_with(rt, alloc, options, workers)?;
     let turner = turner_of(rt, alloc, book, logs, options, digests, next)?;
-    let (parts, crew) = serve_beside(rt, alloc, turner, logs, turns, listener, options, workers);
-    match crew {
-        Ok(
-            Crew {
-                accepted: _,
-                served,
-            },
-        ) => {
+    let (parts, served) = serve_beside(rt, alloc, turner, logs, turns, listener, options, made);
+    match served {
+        Ok(served) => {
             let first = Clerk::new(book, mark);
             totals_of(rt, alloc, book, first, Held::new(parts), served)
         }
-        Err(CrewFault::Memory) => Err(ServerFault::Memory),
-        Err(CrewFault::Socket(error)) => Err(ServerFault::Socket(error)),
+        Err(fault) => Err(fault),
     }
 }
 
-// Serves the listener's connections by a crew of these workers, and makes turns beside it. The turner is told when the crew
-// has ended, and its parts come back.
+// Serves the listener's connections by these workers, and makes turns beside them. The turner is told when the workers have
+// ended, and its parts come back.
 fn serve_beside<
     L: Ledger + Send + Sync,
     R: Threads + Wait + Clock + Log + Sync,
@@ -279,6 +275,7 @@ fn serve_beside<
     S: Logs + Drop + Send,
     G: Digests + Drop + Send,
     W: Worker + Send,
+    M: Looper<W> + Send,
 >(
     rt: &R,
     alloc: Global,
@@ -287,12 +284,13 @@ fn serve_beside<
     turns: &Turns<D>,
     listener: &TcpListener,
     options: &Options,
-    workers: Vec<W>,
-) -> ((Pass<L>, E, S), Result<Crew<W>, CrewFault>)
-    requires { 0 < vec_len workers }
+    workers: Workers<W, M>,
+) -> ((Pass<L>, E, S), Result<Vec<Served<W>>, ServerFault>)
+    requires { 0 < count_of workers }
     ensures turner { Leaves E.does D.is_honest D.state D.failures S.does S.logs G.does turner.entry.tenants.now (turner_of turner.entry) (scanner result.0.1 result.0.0.seen result.0.0.share.amount) result.0.2 }
-    ensures count { IfOk result.1 (λ crew. vec_len crew.served ≡ vec_len workers) }
-    ensures served { IfOk result.1 (λ crew. AllZip (IsServed W.serves) workers.items crew.served.items) }
+    ensures count { IfOk result.1 (λ served. vec_len served ≡ count_of workers) }
+    ensures served { IfOk result.1 (λ served. AreServed W.serves M.leaves workers served.items) }
+    ensures fault { IfErr result.1 IsOfServing }
 {
     thread::join(
         rt,
@@ -300,13 +298,14 @@ fn serve_beside<
             ensures { Leaves E.does D.is_honest D.state D.failures S.does S.logs G.does turner.entry.tenants.now (turner_of turner.entry) (scanner result.1 result.0.seen result.0.share.amount) result.2 }
         { turn_beside(turner, logs, turns, options) },
         move ||
-            requires { 0 < vec_len workers }
-            ensures count { IfOk result (λ crew. vec_len crew.served ≡ vec_len workers) }
-            ensures served { IfOk result (λ crew. AllZip (IsServed W.serves) workers.items crew.served.items) }
+            requires { 0 < count_of workers }
+            ensures count { IfOk result (λ served. vec_len served ≡ count_of workers) }
+            ensures served { IfOk result (λ served. AreServed W.serves M.leaves workers served.items) }
+            ensures fault { IfErr result IsOfServing }
         {
-            let crew = run_crew(rt, alloc, listener, options.sessions, workers);
+            let served = run_workers(rt, alloc, listener, options, workers);
             turns.end_serving(rt);
-            crew
+            served
         },
     )
 }

@@ -17,4 +17,6 @@ returns c =
     let seven = c.in_ok-arg-7.ensures.shape c.checkpoint_bytes_arg.ensures.local ∙ ap₂ with_rule six c.checkpoint_bytes_arg.ensures.rule in
     let eight = c.in_ok-arg-8.ensures.shape c.settle_every_arg.ensures.local ∙ ap₂ with_rule seven c.settle_every_arg.ensures.rule in
     let nine = c.in_ok-arg-9.ensures.shape c.verify_arg.ensures.local ∙ ap₂ with_rule eight c.verify_arg.ensures.rule in
-    IfOk-weaker c.arg-10.result _ _ (λ command added. added.shape c.tenants_arg.ensures.local ∙ ap₂ with_rule nine c.tenants_arg.ensures.rule) c.arg-10.ensures
+    let ten = c.in_ok-arg-10.ensures.shape c.connections_arg.ensures.local ∙ ap₂ with_rule nine c.connections_arg.ensures.rule in
+    let eleven = c.in_ok-arg-11.ensures.shape c.idle_arg.ensures.local ∙ ap₂ with_rule ten c.idle_arg.ensures.rule in
+    IfOk-weaker c.arg-12.result _ _ (λ command added. added.shape c.tenants_arg.ensures.local ∙ ap₂ with_rule eleven c.tenants_arg.ensures.rule) c.arg-12.ensures

@@ -1,6 +1,6 @@
 use Rattle.std.{proofs.Common.{◌∙◌, ap, arith, codes, sym, subst, Bor, Bool, List, ℕ, Some, option_map}, specs.Str.Parse.{ParsesUnsigned, ExplainsUnsignedError, HasUnsignedDigitsIfOk}}
 use Rattle.clap.specs.Words.{found_of, rows_of}
-use Rattle.mt_command_line.{specs.Reads.{IsFlag, NoCheckpoint}, proofs.MatchLemmas.{flag_is, folder_is, large_number_is, none_found, number_if_any_is, or_zero, some_found}}
+use Rattle.mt_command_line.{specs.{Given.IsFlag, Reads.NoCheckpoint}, proofs.MatchLemmas.{flag_is, folder_is, large_number_is, none_found, number_if_any_is, or_zero, some_found}}
 use Rattle.mt_command_line.proofs.reading.store_of.Goals as goal
 
 pub returns-in_ok-from_str-in-Some : goal.returns-in_ok-from_str-in-Some

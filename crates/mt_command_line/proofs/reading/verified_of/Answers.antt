@@ -1,6 +1,6 @@
-use Rattle.std.{proofs.Common.{◌≡◌, ◌∙◌, ap, codes, refl, sym, subst, inl, inr, Bor, Bool, true, false, List, ℕ, Option, Some, None, is_some, option_map}, specs.Option.IsSome}
+use Rattle.std.{proofs.Common.{◌≡◌, ◌∙◌, ap, codes, sym, subst, inl, inr, Bor, Bool, true, false, List, ℕ, Option, Some, None, is_some, option_map}, specs.Option.IsSome}
 use Rattle.clap.specs.Words.{Text, found_of, rows_of}
-use Rattle.mt_command_line.{specs.{CommandLine.{folder_in, verified_in}, Reads.IsFlag}, proofs.MatchLemmas.{flag_is, folder_is}}
+use Rattle.mt_command_line.{specs.{CommandLine.{folder_in, verified_in}, Given.IsFlag}, proofs.MatchLemmas.{flag_is, folder_is}}
 use Rattle.mt_command_line.proofs.reading.verified_of.Goals.{then-is_made, else-is_made}
 use Rattle.mt_command_line.proofs.reading.verified_of.Goals as goal
 

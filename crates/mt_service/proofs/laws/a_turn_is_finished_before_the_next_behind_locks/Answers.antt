@@ -1,4 +1,4 @@
-use Rattle.std.proofs.Common.{ap, inl, inr, ⊎_elim}
+use Rattle.std.proofs.Common.{ap, ⊎_elim}
 use Rattle.mt_stored.proofs.SharedTurns.{each_goes}
 use Rattle.mt_service.proofs.laws.a_turn_is_finished_before_the_next_behind_locks.Goals as goal
 
