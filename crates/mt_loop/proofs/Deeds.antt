@@ -1,14 +1,14 @@
 -- Deeds on a shared caller, one after the other; and a session whose caller was led on by the turns of others.
 use Rattle.std.proofs.Common.{ℕ, Bool, true, false, List, [], ◌∷◌, ◌++◌, Option, Some, None, Result, Ok, Err, inl, inr, refl, sym, subst, ◌∙◌}
 use Rattle.std.specs.List.{FoldsTo}
-use Rattle.mt_rows.specs.Rows.{Bytes}
+use Rattle.mt_rows.specs.{Rows.Bytes, declared.command.Command.TheVariants.Get}
 use Rattle.mt_wire.specs.{declared.message.Request.Request, declared.message.Request.TheVariants.{Open, Call, Settle, GetStamped}, declared.message.WireReply.WireReply}
-use Rattle.mt_caller.specs.Exchanges.{Exchange, CallerRelation}
+use Rattle.mt_caller.specs.{Exchanges.{Exchange, Opens, Calls, Settles, CallerRelation}, declared.caller.CallerFault.TheVariants.Stuck}
 use Rattle.mt_session.specs.{Sessions.{IsReply, IsStuck, AreReplies, Transcript}, Endings.{AsksAtMostOne, EndsAs}}
 use Rattle.mt_session.specs.{declared.ended.Ended.Ended, declared.ended.ServeFault.ServeFault}
 use Rattle.mt_session.specs.declared.ended.Ended.TheVariants as ends
 use Rattle.mt_session.specs.declared.ended.ServeFault.TheVariants as faults
-use Rattle.mt_loop.specs.{Connections.{Stands, IsSession, IsFresh}, Deeds.{Asked, Does, Led, Resumed, SharedExchanges}}
+use Rattle.mt_loop.specs.{Connections.{Stands, IsSession, IsFresh}, Deeds.{Asked, ButSettles, Does, Led, Resumed, SharedExchanges}}
 use Rattle.mt_loop.specs.declared.{sharing.Shared.Shared, connection.Connection.Connection, connection.State.State, connection.State.TheVariants.{Waits, Goes, Ended as HasEnded}}
 use Rattle.mt_loop.proofs.Sessions.{begins}
 
@@ -22,6 +22,21 @@ asked_none exchanges s = ([], refl)
 
 pub asked_then : {S : Type 0} (exchanges : CallerRelation S) (s m t : S) → Asked exchanges s m → Asked exchanges m t → Asked exchanges s t
 asked_then exchanges s m t (xs, a) (ys, b) = (xs ++ ys, folds_then exchanges s m t xs ys a b)
+
+-- what is asked but Settles is asked
+but_settles : {S : Type 0} (exchanges : CallerRelation S) (s t : S) (exchange : Exchange) → ButSettles exchanges s exchange t → exchanges s exchange t
+but_settles exchanges s t (Opens tenant refusal) a = a
+but_settles exchanges s t (Calls command told) a = a
+but_settles exchanges s t (Settles told) a = absurd a
+
+pub asked_any : {S : Type 0} (exchanges : CallerRelation S) (s t : S) → Asked (ButSettles exchanges) s t → Asked exchanges s t
+asked_any exchanges s t ([], e) = ([], e)
+asked_any exchanges s t (x ∷ xs, (j, a, more)) = let (ys, b) = asked_any exchanges j t (xs, more) in (x ∷ ys, (j, but_settles exchanges s j x a, b))
+
+pub led_any : {S : Type 0} (exchanges : CallerRelation S) (resumes : S → S → Type 0) (s t : S) → Led (ButSettles exchanges) resumes s t → Led exchanges resumes s t
+led_any exchanges resumes s t ([], e) = ([], e)
+led_any exchanges resumes s t (Some x ∷ xs, (j, a, more)) = let (ys, b) = led_any exchanges resumes j t (xs, more) in (Some x ∷ ys, (j, but_settles exchanges s j x a, b))
+led_any exchanges resumes s t (None ∷ xs, (j, a, more)) = let (ys, b) = led_any exchanges resumes j t (xs, more) in (None ∷ ys, (j, a, b))
 
 -- a connection that is new begins a session
 pub fresh_session : {S : Type 0} (exchanges : CallerRelation S) (before held : Option Bytes) (s : S) (c : Connection) → IsFresh c → IsSession exchanges before before held held s c s
@@ -47,37 +62,40 @@ module _ {S : Type 0} (exchanges : CallerRelation S) (resumes : S → S → Type
   pub resumed_then : (s m t : S) → Resumed exchanges resumes opened s m → Resumed exchanges resumes opened m t → Resumed exchanges resumes opened s t
   resumed_then s m t (a, e) (b, f) = (led_then exchanges resumes s m t a b, f ∙ e)
 
-  -- an exchange of the caller is one of the session that has its turn
-  pub shared_exchange : (s t : Shared S) (exchange : Exchange) → exchanges s.caller exchange t.caller → SharedExchanges exchanges resumes opened s exchange t
-  shared_exchange s t exchange a = (t.caller, a, resumed_none t.caller)
+  exchange_led : (s t : Shared S) (exchange : Exchange) → SharedExchanges exchanges resumes opened s exchange t → Led exchanges resumes s.caller t.caller
+  exchange_led s t (Opens tenant refusal) (mid, a, (l, o)) = led_then exchanges resumes s.caller mid t.caller (led_exchange exchanges resumes s.caller mid _ a) l
+  exchange_led s t (Calls command told) (mid, a, (l, o)) = led_then exchanges resumes s.caller mid t.caller (led_exchange exchanges resumes s.caller mid _ a) l
+  exchange_led s t (Settles told) (from, mid, before, a, l, o) =
+      led_then exchanges resumes s.caller from t.caller before (led_then exchanges resumes from mid t.caller (led_exchange exchanges resumes from mid _ a) l)
 
   -- what sessions exchange are deeds on their caller
   pub asked_led : (s t : Shared S) → Asked (SharedExchanges exchanges resumes opened) s t → Led exchanges resumes s.caller t.caller
   asked_led s t ([], e) = subst (λ (x : Shared S). Led exchanges resumes s.caller x.caller) e (led_none exchanges resumes s.caller)
-  asked_led s t (x ∷ xs, (j, (mid, a, (l, o)), more)) =
-      led_then exchanges resumes s.caller j.caller t.caller (led_then exchanges resumes s.caller mid j.caller (led_exchange exchanges resumes s.caller mid x a) l) (asked_led j t (xs, more))
+  asked_led s t (x ∷ xs, (j, one, more)) = led_then exchanges resumes s.caller j.caller t.caller (exchange_led s j x one) (asked_led j t (xs, more))
 
   -- an exchange, and then turns of others
   exchange_resumed : (s t u : Shared S) (exchange : Exchange) → SharedExchanges exchanges resumes opened s exchange t → Resumed exchanges resumes opened t.caller u.caller → SharedExchanges exchanges resumes opened s exchange u
-  exchange_resumed s t u exchange (mid, a, r) later = (mid, a, resumed_then mid t.caller u.caller r later)
+  exchange_resumed s t u (Opens tenant refusal) (mid, a, r) later = (mid, a, resumed_then mid t.caller u.caller r later)
+  exchange_resumed s t u (Calls command told) (mid, a, r) later = (mid, a, resumed_then mid t.caller u.caller r later)
+  exchange_resumed s t u (Settles told) (from, mid, before, a, l, o) (more, e) = (from, mid, before, a, led_then exchanges resumes mid t.caller u.caller l more, e ∙ o)
 
   -- A session's reply, and then turns of others. If its caller was not asked, they were before it.
   reply_resumed : (was_open now_open : Bool) (s t u : Shared S) (request : Request) (reply : WireReply)
       → IsReply (SharedExchanges exchanges resumes opened) was_open s request reply now_open t → Resumed exchanges resumes opened t.caller u.caller
       → (begin : Shared S) × Resumed exchanges resumes opened s.caller begin.caller × IsReply (SharedExchanges exchanges resumes opened) was_open begin request reply now_open u
-  reply_resumed false now_open s t u (Open tenant) reply (refusal, a, e, o) later = (s, resumed_none s.caller, (refusal, exchange_resumed s t u _ a later, e, o))
+  reply_resumed false now_open s t u (Open tenant) reply (refusal, a, e, o) later = (s, resumed_none s.caller, (refusal, exchange_resumed s t u (Opens tenant refusal) a later, e, o))
   reply_resumed false now_open s t u (Call command) reply (e, o, n) later = (u, subst (λ (x : Shared S). Resumed exchanges resumes opened x.caller u.caller) n later, (e, o, refl))
   reply_resumed false now_open s t u (GetStamped key columns) reply (e, o, n) later = (u, subst (λ (x : Shared S). Resumed exchanges resumes opened x.caller u.caller) n later, (e, o, refl))
   reply_resumed false now_open s t u Settle reply (e, o, n) later = (u, subst (λ (x : Shared S). Resumed exchanges resumes opened x.caller u.caller) n later, (e, o, refl))
   reply_resumed true now_open s t u (Open tenant) reply (e, o, n) later = (u, subst (λ (x : Shared S). Resumed exchanges resumes opened x.caller u.caller) n later, (e, o, refl))
-  reply_resumed true now_open s t u (Call command) reply (answer, a, e, o) later = (s, resumed_none s.caller, (answer, exchange_resumed s t u _ a later, e, o))
-  reply_resumed true now_open s t u (GetStamped key columns) reply (answer, a, e, o) later = (s, resumed_none s.caller, (answer, exchange_resumed s t u _ a later, e, o))
-  reply_resumed true now_open s t u Settle reply (answer, a, e, o) later = (s, resumed_none s.caller, (answer, exchange_resumed s t u _ a later, e, o))
+  reply_resumed true now_open s t u (Call command) reply (answer, a, e, o) later = (s, resumed_none s.caller, (answer, exchange_resumed s t u (Calls command answer) a later, e, o))
+  reply_resumed true now_open s t u (GetStamped key columns) reply (answer, a, e, o) later = (s, resumed_none s.caller, (answer, exchange_resumed s t u (Calls (Get key columns) answer) a later, e, o))
+  reply_resumed true now_open s t u Settle reply (answer, a, e, o) later = (s, resumed_none s.caller, (answer, exchange_resumed s t u (Settles answer) a later, e, o))
 
   stuck_resumed : (was_open : Bool) (s t u : Shared S) (request : Request)
       → IsStuck (SharedExchanges exchanges resumes opened) was_open s request t → Resumed exchanges resumes opened t.caller u.caller → IsStuck (SharedExchanges exchanges resumes opened) was_open s request u
-  stuck_resumed true s t u (Call command) a later = exchange_resumed s t u _ a later
-  stuck_resumed true s t u (GetStamped key columns) a later = exchange_resumed s t u _ a later
+  stuck_resumed true s t u (Call command) a later = exchange_resumed s t u (Calls command (Err Stuck)) a later
+  stuck_resumed true s t u (GetStamped key columns) a later = exchange_resumed s t u (Calls (Get key columns) (Err Stuck)) a later
   stuck_resumed true s t u (Open tenant) a later = absurd a
   stuck_resumed true s t u Settle a later = absurd a
   stuck_resumed false s t u request a later = absurd a

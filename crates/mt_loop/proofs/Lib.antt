@@ -3,3 +3,4 @@ pub mod Deeds
 pub mod Asking
 pub mod Tables
 pub mod Looks
+pub mod Settles

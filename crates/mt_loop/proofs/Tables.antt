@@ -14,7 +14,7 @@ waits_on entry (inl unsent) (ended, sent) = unsent sent
 waits_on entry (inr waits) (ended, sent) = ended (ap ending_of waits)
 
 pub goes_again : {T : Type 0} (entry : Entry T) → IsNext Again entry.connection → IsDone entry → ⊥
-goes_again entry (goes, sent) (ended, all) = ended goes
+goes_again entry (goes, sent, other) (ended, all) = ended goes
 
 module _ {C T : Type 0} (exchanges : CallerRelation C) (resumes : C → C → Type 0) (opened : C → Option ℕ) (remaining contents : T → Option Bytes) where
   -- a connection has its turn: its session resumes, and goes on

@@ -1,10 +1,10 @@
 -- A connection: what it has read and told so far, and what to do with it next.
 use Rattle.std.specs.{Prelude.{◌≡◌, ◌≢◌, ◌<◌, length, Bool, true, false, [], ◌++◌, ◌⊎◌, Option, Some, None, Result}, Io.KnownBytes.{Consumes, Appends, Keeps}}
 use Rattle.mt_rows.specs.Rows.{Bytes}
-use Rattle.mt_wire.specs.Fronts.{IsPartial}
+use Rattle.mt_wire.specs.{Fronts.IsPartial, Requests.spelling, declared.message.Request.TheVariants.Settle}
 use Rattle.mt_caller.specs.Exchanges.{CallerRelation}
 use Rattle.mt_session.specs.{declared.ended.Ended.Ended, declared.ended.ServeFault.ServeFault, Sessions.Transcript, Endings.Serves}
-use Rattle.mt_loop.specs.declared.connection.{Connection.Connection, Next.Next, Next.TheVariants.{Wait, Again, Close}, State.State, State.TheVariants.{Waits, Goes, Ended as HasEnded}}
+use Rattle.mt_loop.specs.declared.connection.{Connection.Connection, Next.Next, Next.TheVariants.{Wait, Again, Settle as AsksToSettle, Close}, State.State, State.TheVariants.{Waits, Goes, Ended as HasEnded}}
 
 -- a connection that has read nothing and told nothing
 abbrev pub IsFresh : Connection → Type 0
@@ -32,11 +32,24 @@ ending_of Waits = None
 ending_of Goes = None
 ending_of (HasEnded result) = Some result
 
--- What to do with a connection. It is closed when its session has ended and all is sent, and else never. It waits for its
+-- the next request is a Settle
+abbrev pub BeginsWithSettle : Bytes → Type 0
+BeginsWithSettle input = (rest : Bytes) × (input ≡ spelling Settle ++ rest)
+
+-- a session that is open has come to a Settle
+abbrev pub IsAtSettle : Connection → Type 0
+IsAtSettle c = (c.state ≡ Goes) × (c.opened ≡ true) × BeginsWithSettle c.input.items
+
+-- and all that it was told before is sent
+abbrev pub AwaitsSettle : Connection → Type 0
+AwaitsSettle c = IsAtSettle c × (c.unsent.bytes.items ≡ [])
+
+-- What to do with a connection. It is told a Settle if it awaits one, and else never. It is closed when its session has ended and all is sent, and else never. It waits for its
 -- stream only if something is unsent, or if what is left of its input is less than a frame.
 abbrev pub IsNext : Next → Connection → Type 0
 IsNext Close c = (ending_of c.state ≢ None) × (c.unsent.bytes.items ≡ [])
-IsNext Again c = (ending_of c.state ≡ None) × (c.unsent.bytes.items ≡ [])
+IsNext Again c = (ending_of c.state ≡ None) × (c.unsent.bytes.items ≡ []) × ¬ AwaitsSettle c
+IsNext AsksToSettle c = AwaitsSettle c
 IsNext Wait c = (c.unsent.bytes.items ≢ []) ⊎ (c.state ≡ Waits)
 
 -- what a connection may wait for, that the writer, which is blocked, takes what is unsent, or that the reader, which is drained,

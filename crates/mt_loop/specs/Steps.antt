@@ -1,13 +1,14 @@
 -- What a send, a read and an answer do to a connection. For the private functions.
 use Rattle.std.specs.{Prelude.{◌≡◌, ◌≢◌, Bool, [], ◌++◌, ◌⊎◌, Option, Some, None, Result, Ok, Err}, Io.KnownBytes.{Consumes, Keeps, IsAtEnd}}
 use Rattle.mt_rows.specs.Rows.{Bytes}
+use Rattle.mt_wire.specs.{Requests.spelling, declared.message.Request.TheVariants.Settle}
 use Rattle.mt_caller.specs.Exchanges.{CallerRelation}
 use Rattle.mt_session.specs.{declared.answering.Stop.Stop, declared.ended.ServeFault.ServeFault}
 use Rattle.mt_session.specs.{Sessions.Transcript, Endings.IsBeginning, Turns.IsWritten}
 use Rattle.mt_session.specs.declared.answering.Stop.TheVariants as stops
 use Rattle.mt_session.specs.declared.ended.Ended.TheVariants as ends
 use Rattle.mt_session.specs.declared.ended.ServeFault.TheVariants as faults
-use Rattle.mt_loop.specs.declared.connection.{State.State, State.TheVariants.{Waits, Goes, Ended as HasEnded}}
+use Rattle.mt_loop.specs.declared.connection.{Connection.Connection, State.State, State.TheVariants.{Waits, Goes, Ended as HasEnded}}
 
 -- What was unsent was sent, and the rest is kept. Or the writer failed: that ends the session, and nothing is kept.
 abbrev pub IsSent : Bytes → State → Bytes → Bytes → State → Type 0
@@ -30,6 +31,15 @@ IsRead failed before left input was rest now =
     ((was ≢ Waits) × (left ≡ before) × (rest ≡ input) × (now ≡ was))
     ⊎ (((was ≡ Waits) × failed × Keeps before left × (rest ≡ input) × ((now ≡ Waits) ⊎ (now ≡ HasEnded (Err faults.Read))))
     ⊎ ((was ≡ Waits) × (more : Bytes) × Consumes before left more × (more ≡ [] → IsAtEnd left) × IsAfterRead input more rest now))
+
+-- The Settle at the front of the input has this reply. If memory ran out, a front of the reply is told, and the session has ended.
+pub record IsSettled (reply : Bytes) (old new : Connection) : Type 0 where
+  pub front : old.input.items ≡ spelling Settle ++ new.input.items
+  pub opened : new.opened ≡ old.opened
+  pub silent : new.is_silent ≡ old.is_silent
+  pub told :
+      ((new.unsent.bytes.items ≡ old.unsent.bytes.items ++ reply) × (new.state ≡ old.state))
+      ⊎ ((part : Bytes) × (new.unsent.bytes.items ≡ old.unsent.bytes.items ++ part) × IsBeginning part reply × (new.state ≡ HasEnded (Err faults.Write)))
 
 -- where a session is after an answer
 abbrev pub state_of : Result Stop ServeFault → State

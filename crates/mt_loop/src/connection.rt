@@ -1,23 +1,28 @@
 //! One connection: what it keeps between two turns, and one turn.
 
-ghost use Rattle.std.specs.{Prelude.{◌≡◌, ◌≢◌, ◌<◌, ◌⊎◌, ◌↔◌, IsTrue, true, false, [], ℕ, List, Option, None, Ok, Err, length}, Io.KnownBytes.{Keeps, Appends}, Bool.{OnTrue, OnFalse}};
+ghost use Rattle.std.specs.{Prelude.{◌≡◌, ◌≢◌, ◌<◌, ◌⊎◌, ◌↔◌, ◌++◌, IsTrue, true, false, [], ℕ, List, Option, None, Ok, Err, OnOk, OnErr, length}, Io.KnownBytes.{Keeps, Appends}, Bool.{OnTrue, OnFalse}};
 ghost use Rattle.mt_streams.specs.Failures.{Failed, NoFewer};
+ghost use Rattle.mt_wire.specs.Replies.{reply_spelling};
 ghost use Rattle.mt_session.specs.{Endings.IsBeginning, declared.answering.Stop.Stop};
-ghost use Rattle.mt_loop.specs.{Connections.{IsFresh, IsSession, IsSilent, IsNext, MayWait, IsOnward, ending_of}, Deeds.Asked, Steps.{IsSent, IsRead, IsAfterRead, IsTold, state_of}};
+ghost use Rattle.mt_loop.specs.{Connections.{IsFresh, IsSession, IsSilent, IsNext, MayWait, IsOnward, AwaitsSettle, BeginsWithSettle, IsAtSettle, ending_of}, Deeds.{Asked, ButSettles}, Steps.{IsSent, IsRead, IsAfterRead, IsTold, IsSettled, state_of}};
 
 use crate::unsent::{Sent, Unsent};
 use bytes::BytesMut;
 use mt_caller::Caller;
 use mt_session::{Ended, FULL_BYTES, ServeFault, Stop, answer};
 use mt_streams::{Sink, Source, flush};
+use mt_wire::{WireReply, write_reply};
 use std::alloc::Global;
-use std::io::ErrorKind;
+use std::io::{self, ErrorKind};
 
 /// What one read takes at most, in bytes.
 pub const PIECE_BYTES: usize = 65_536;
 
 /// How many requests a turn answers at most.
 pub const TURN_CALLS: u32 = 64;
+
+// The frame of a Settle.
+const SETTLE: [u8; 5] = [0, 0, 0, 1, 6];
 
 /// How far a connection's session is.
 #[derive(Drop)]
@@ -37,6 +42,8 @@ pub enum Next {
     Wait,
     /// Give it another turn, without an event.
     Again,
+    /// Tell it what a Settle of its caller tells, which is asked after this turn. Then give it another turn.
+    Settle,
     /// Close it.
     Close,
 }
@@ -69,7 +76,8 @@ impl Connection {
     }
 
     /// One turn: what is unsent is sent. If all of it was, there is one read at most, and the requests at the
-    /// front of the input are answered, until `TURN_CALLS` of them or a full output. What that leaves is sent.
+    /// front of the input are answered, until `TURN_CALLS` of them, a full output, or a Settle. What that leaves
+    /// is sent. A Settle of an open session is left to whoever gives the turns.
     ///
     /// What is read and what is told are one session's, whatever the streams do. A writer that fails ends
     /// the session. A connection without input and without output keeps no memory.
@@ -91,7 +99,7 @@ impl Connection {
         ensures waits { result ≡ Next.Wait → MayWait (Failed (W.failures writer.old) (W.failures writer.new)) (Failed (R.failures reader.old) (R.failures reader.new)) self.new }
         ensures onward { result ≡ Next.Again → IsOnward (Failed (R.failures reader.old) (R.failures reader.new)) self.old self.new }
         ensures cause { self.new.state ≡ State.Ended (Err ServeFault.Read) → (self.old.state ≡ State.Ended (Err ServeFault.Read)) ⊎ Failed (R.failures reader.old) (R.failures reader.new) }
-        ensures asked { Asked C.exchanges caller.old caller.new }
+        ensures asked { Asked (ButSettles C.exchanges) caller.old caller.new }
         ensures silent { IsSilent self.new.is_silent (R.remaining reader.old) (R.remaining reader.new) }
         ensures idle_input { self.new.input.items ≡ [] → self.new.input.spare ≡ 0 }
         ensures idle_output { self.new.unsent.bytes.items ≡ [] → self.new.unsent.bytes.spare ≡ 0 }
@@ -106,6 +114,24 @@ impl Connection {
         ensures { IsTrue result ↔ (self.now.unsent.bytes.items ≢ []) }
     {
         !self.unsent.bytes.is_empty()
+    }
+
+    /// Whether its open session has come to a Settle, and all that it was told before is sent.
+    pub fn awaits_settle(&self) -> bool
+        ensures { IsTrue result ↔ AwaitsSettle self.now }
+    {
+        self.is_at_settle() && !self.is_unsent()
+    }
+
+    /// Its Settle has this reply. If memory runs out for it, the session ends with `Write`, as with each reply.
+    pub fn tell_settled(&mut self, alloc: Global, reply: &WireReply)
+        requires { IsAtSettle self.old }
+        ensures { IsSettled (reply_spelling reply.now) self.old self.new }
+    {
+        self.input.advance(SETTLE.len());
+        if reply_into(alloc, reply, &mut self.unsent).is_err() {
+            self.state = State::Ended(Err(ServeFault::Write));
+        }
     }
 
     /// Whether its last turn read nothing.
@@ -140,10 +166,10 @@ impl Connection {
             → IsSession C.exchanges before (R.remaining reader.new) held (W.contents writer.new) start self.new caller.new }
         ensures pressure { (sent : List ℕ) × Appends (W.contents writer.old) (W.contents writer.new) sent
             × (IsBeginning self.old.unsent.bytes.items sent ⊎ Keeps (R.remaining reader.old) (R.remaining reader.new)) }
-        ensures asked { Asked C.exchanges caller.old caller.new }
+        ensures asked { Asked (ButSettles C.exchanges) caller.old caller.new }
         ensures silent { IsSilent self.new.is_silent (R.remaining reader.old) (R.remaining reader.new) }
         ensures blocked { self.new.unsent.bytes.items ≢ [] → Failed (W.failures writer.old) (W.failures writer.new) }
-        ensures onward { ending_of self.new.state ≡ None → self.new.unsent.bytes.items ≡ [] → IsOnward (Failed (R.failures reader.old) (R.failures reader.new)) self.old self.new }
+        ensures onward { ending_of self.new.state ≡ None → self.new.unsent.bytes.items ≡ [] → ¬ IsAtSettle self.new → IsOnward (Failed (R.failures reader.old) (R.failures reader.new)) self.old self.new }
         ensures cause { self.new.state ≡ State.Ended (Err ServeFault.Read) → (self.old.state ≡ State.Ended (Err ServeFault.Read)) ⊎ Failed (R.failures reader.old) (R.failures reader.new) }
         ensures drained { OnTrue result (Failed (R.failures reader.old) (R.failures reader.new)) }
     {
@@ -166,6 +192,9 @@ impl Connection {
     {
         if self.is_unsent() {
             return Next::Wait;
+        }
+        if self.is_at_settle() {
+            return Next::Settle;
         }
         match self.state {
             State::Waits if is_drained => Next::Wait,
@@ -231,19 +260,31 @@ impl Connection {
         }
     }
 
-    // Answers the requests at the front of the input, until so many or a full output.
+    // Whether its open session has come to a Settle.
+    fn is_at_settle(&self) -> bool
+        ensures { IsTrue result ↔ IsAtSettle self.now }
+    {
+        matches!(self.state, State::Goes)
+            && self.opened
+            && self.input.as_slice().starts_with(&SETTLE)
+    }
+
+    // Answers the requests at the front of the input, until so many, a full output, or a Settle.
     fn answer_some<C: Caller>(&mut self, alloc: Global, caller: &mut C)
         ensures session { (before left held holds : Option (List ℕ)) (start : C)
             → IsSession C.exchanges before left held holds start self.old caller.old
             → IsSession C.exchanges before left held holds start self.new caller.new }
-        ensures asked { Asked C.exchanges caller.old caller.new }
+        ensures asked { Asked (ButSettles C.exchanges) caller.old caller.new }
         ensures silent { self.new.is_silent ≡ self.old.is_silent }
         ensures others { self.old.state ≢ State.Goes → self.new ≡ self.old }
         ensures cause { self.new.state ≡ State.Ended (Err ServeFault.Read) → self.new ≡ self.old }
-        ensures onward { self.old.state ≡ State.Goes → self.old.unsent.bytes.items ≡ [] → (self.new.state ≢ State.Goes) ⊎ (length self.new.input.items < length self.old.input.items) }
+        ensures onward { self.old.state ≡ State.Goes → self.old.unsent.bytes.items ≡ [] → ¬ IsAtSettle self.new → (self.new.state ≢ State.Goes) ⊎ (length self.new.input.items < length self.old.input.items) }
     {
         for _ in 0..TURN_CALLS {
-            if !matches!(self.state, State::Goes) || self.unsent.bytes.len() >= FULL_BYTES {
+            if !matches!(self.state, State::Goes)
+                || self.unsent.bytes.len() >= FULL_BYTES
+                || self.is_at_settle()
+            {
                 return;
             }
             self.answer_one(alloc, caller);
@@ -252,11 +293,12 @@ impl Connection {
 
     // Answers one request, if one is at the front of the input.
     fn answer_one<C: Caller>(&mut self, alloc: Global, caller: &mut C)
-        requires { self.old.state ≡ State.Goes }
+        requires goes { self.old.state ≡ State.Goes }
+        requires other { ¬ IsAtSettle self.old }
         ensures session { (before left held holds : Option (List ℕ)) (start : C)
             → IsSession C.exchanges before left held holds start self.old caller.old
             → IsSession C.exchanges before left held holds start self.new caller.new }
-        ensures asked { Asked C.exchanges caller.old caller.new }
+        ensures asked { Asked (ButSettles C.exchanges) caller.old caller.new }
         ensures silent { self.new.is_silent ≡ self.old.is_silent }
         ensures cause { self.new.state ≢ State.Ended (Err ServeFault.Read) }
         ensures onward { (self.new.state ≢ State.Goes) ⊎ (length self.new.input.items < length self.old.input.items) }
@@ -344,6 +386,7 @@ fn answer_into<C: Caller>(
     unsent: &mut Unsent,
 ) -> Result<Stop, ServeFault>
     ensures onward { result ≡ Ok Stop.Full → length input.new.items < length input.old.items }
+    ensures asked { (opened.old ≡ true → BeginsWithSettle input.old.items → ⊥) → Asked (ButSettles C.exchanges) caller.old caller.new }
     ensures told { IsTold C.exchanges input.old.items opened.old caller.old result input.new.items opened.new caller.new unsent.old.bytes.items unsent.new.bytes.items }
 {
     // The output has no room: replies go to what is unsent at once.
@@ -353,4 +396,14 @@ fn answer_into<C: Caller>(
         Ok(()) => Ok(stop),
         Err(_) => Err(ServeFault::Write),
     }
+}
+
+// Puts a reply after what is unsent.
+fn reply_into(alloc: Global, reply: &WireReply, unsent: &mut Unsent) -> io::Result<()>
+    ensures ok { OnOk result (unsent.new.bytes.items ≡ unsent.old.bytes.items ++ reply_spelling reply.now) }
+    ensures err { OnErr result ((part : List ℕ) × (unsent.new.bytes.items ≡ unsent.old.bytes.items ++ part) × IsBeginning part (reply_spelling reply.now)) }
+{
+    let mut output = BytesMut::new(alloc);
+    write_reply(reply, &mut output, unsent)?;
+    flush(&mut output, unsent)
 }

@@ -3,8 +3,8 @@
 //! What a socket has read and written, and which socket is ready, is the system's word. This file alone
 //! takes it: a stream of `mio` doesn't tell its bytes, and no clause says what `poll` reports.
 
-ghost use Rattle.std.specs.Prelude.{◌<◌, ℕ, List, Option, None, length};
-ghost use Rattle.mt_loop.specs.{Connections.{IsSession, IsNext}, Deeds.{Asked, Led}};
+ghost use Rattle.std.specs.Prelude.{◌≡◌, ◌<◌, ℕ, List, Option, None, IfOk, length};
+ghost use Rattle.mt_loop.specs.{Connections.{IsSession, IsNext}, Deeds.{Asked, ButSettles, Led}};
 
 use crate::connection::{Connection, Next};
 use crate::inbox::{Door, Inbox, open_door};
@@ -131,7 +131,7 @@ fn turn_at<C: Caller, P: Pause + Copy + Drop>(
     ensures session { (had held : Option (List ℕ)) (start : C)
         → IsSession C.exchanges had None held None start connection.old caller.old
         → IsSession C.exchanges had None held None start connection.new caller.new }
-    ensures asked { Asked C.exchanges caller.old caller.new }
+    ensures asked { Asked (ButSettles C.exchanges) caller.old caller.new }
     ensures next { IsNext result connection.new }
 {
     let mut reader = stream;
@@ -152,7 +152,9 @@ pub struct EventLoop {
 
 impl EventLoop {
     /// A loop, and its door.
-    pub fn new<R: Net>(rt: &R, alloc: Global, limits: Limits) -> Result<(Self, Door), LoopFault> {
+    pub fn new<R: Net>(rt: &R, alloc: Global, limits: Limits) -> Result<(Self, Door), LoopFault>
+        ensures { IfOk result (λ made. (made.0.limits ≡ limits) × (made.1.most ≡ limits.connections)) }
+    {
         let poll = Poll::new(rt)?;
         let waker = Waker::new(poll.registry(), DOOR)?;
         let (door, inbox) = open_door(alloc, waker, limits.connections)?;

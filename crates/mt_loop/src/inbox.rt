@@ -1,6 +1,6 @@
 //! How connections come to a loop: through its door, from the thread that accepts them.
 
-ghost use Rattle.std.specs.Prelude.{◌≡◌, ◌+◌, min, OnOk, IfErr};
+ghost use Rattle.std.specs.Prelude.{◌≡◌, ◌+◌, min, OnOk, IfOk, IfErr};
 
 use crossbeam_channel::{Receiver, Sender, TryRecvError, bounded};
 use mio::Waker;
@@ -52,7 +52,9 @@ pub(crate) fn open_door(
     alloc: Global,
     waker: Waker,
     most: usize,
-) -> Result<(Door, Inbox), AllocError> {
+) -> Result<(Door, Inbox), AllocError>
+    ensures { IfOk result (λ made. made.0.most ≡ most) }
+{
     let (sender, receiver) = bounded::<TcpStream, Global>(alloc, most)?;
     let hall = Arc::new(
         alloc,

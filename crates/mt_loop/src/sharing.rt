@@ -47,7 +47,10 @@ impl<C: Sharing + Drop> Caller for Shared<C> {
     }
 
     fn settle(&mut self) -> Result<u64, Refusal> {
-        self.caller.settle()
+        let tenant = self.caller.opened();
+        let told = self.caller.settle();
+        self.caller.resume(tenant);
+        told
     }
 }
 

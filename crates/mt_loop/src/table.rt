@@ -1,16 +1,20 @@
 //! The connections of a loop, and who has its turn next. Times are seconds since the loop began.
 
 ghost use Rattle.std.specs.Prelude.{◌≡◌, ◌≢◌, ◌<◌, ◌↔◌, ◌⊎◌, ◌++◌, ◌∷◌, [], true, false, IsTrue, ℕ, List, Option, Some, None, IfSome, IfNone, IfOk, Result, length};
-ghost use Rattle.mt_session.specs.{declared.ended.ServeFault.ServeFault, Endings.Serves};
+ghost use Rattle.mt_wire.specs.Replies.{reply_spelling};
+ghost use Rattle.mt_caller.specs.Exchanges.{Settles};
+ghost use Rattle.mt_session.specs.{declared.ended.ServeFault.ServeFault, Endings.Serves, Sessions.settle_told};
 ghost use Rattle.mt_loop.specs.declared.connection.State.TheVariants.{Ended as HasEnded};
 ghost use Rattle.slab.specs.Slab.{get, slab_len, Updates, SameValues};
-ghost use Rattle.mt_loop.specs.{Connections.{IsSession, IsNext}, Deeds.{Asked, Led, Resumed, SharedExchanges}, Tables.{Beginning, HasSession, HaveSessions, AreAmong, IsDone, IsFull}, Limits.{HasGoneOn, IsNoted, IsOver}};
+ghost use Rattle.mt_loop.specs.{Connections.{IsSession, IsNext, AwaitsSettle}, Deeds.{Asked, ButSettles, Led, Resumed, SharedExchanges}, Tables.{Beginning, HasSession, HaveSessions, HaveSessionsSince, AreAmong, AreQueued, IsSettledOrSame, IsDone, IsFull, IsRound, NoneAwaits, SettlesAll}, Limits.{HasGoneOn, IsNoted, IsOver}};
 
 use crate::connection::{Connection, Next, PIECE_BYTES, State};
 use crate::sharing::{Shared, Sharing};
 use mt_caller::Caller;
+use mt_rows::Refusal;
 use mt_session::Ended;
 use mt_streams::{Sink, Source};
+use mt_wire::WireReply;
 use slab::Slab;
 use std::alloc::{AllocError, Global};
 use std::collections::VecDeque;
@@ -39,7 +43,7 @@ pub trait Stream {
         ensures session { (before held : Option (List ℕ)) (start : C)
             → IsSession C.exchanges before (remaining self.old) held (contents self.old) start connection.old caller.old
             → IsSession C.exchanges before (remaining self.new) held (contents self.new) start connection.new caller.new }
-        ensures asked { Asked C.exchanges caller.old caller.new }
+        ensures asked { Asked (ButSettles C.exchanges) caller.old caller.new }
         ensures next { IsNext result connection.new };
 
     /// Leaves a stream of which not all was read, so that what was written last arrives.
@@ -110,6 +114,7 @@ impl<S: Stream + Drop> Entry<S> {
             → HasSession C.exchanges C.resumes C.opened S.remaining S.contents beginning self.new caller.new.caller }
         ensures led { Led C.exchanges C.resumes caller.old.caller caller.new.caller }
         ensures next { IsNext result self.new.connection }
+        ensures queued { self.new.is_queued ≡ false }
     {
         let before = self.lengths();
         caller.caller.resume(self.opened);
@@ -122,6 +127,26 @@ impl<S: Stream + Drop> Entry<S> {
         self.opened = caller.caller.opened();
         self.note(before, now);
         next
+    }
+
+    // What a Settle of the caller told is the reply to its Settle, if it awaits one.
+    fn tell_settled<C: Sharing + Drop>(
+        &mut self,
+        alloc: Global,
+        caller: &mut Shared<C>,
+        reply: &WireReply,
+    )
+        ensures session { (beginning : Beginning C) (from mid : C) (told : Result ℕ Refusal) → reply.now ≡ settle_told told → C.exchanges from (Settles told) mid → Led C.exchanges C.resumes mid caller.old.caller
+            → (AwaitsSettle self.old.connection → HasSession C.exchanges C.resumes C.opened S.remaining S.contents beginning self.old from)
+            → HasSession C.exchanges C.resumes C.opened S.remaining S.contents beginning self.old caller.old.caller
+            → HasSession C.exchanges C.resumes C.opened S.remaining S.contents beginning self.new caller.new.caller }
+        ensures settled { IsSettledOrSame (reply_spelling reply.now) self.old self.new }
+        ensures led { Led (ButSettles C.exchanges) C.resumes caller.old.caller caller.new.caller }
+    {
+        if self.connection.awaits_settle() {
+            caller.caller.resume(self.opened);
+            self.connection.tell_settled(alloc, reply);
+        }
     }
 
     // How much is read and not answered, and how much is told and not sent.
@@ -195,6 +220,7 @@ pub struct Counts {
 pub struct Table<S: Stream + Drop> {
     pub(crate) entries: Slab<Entry<S>>,
     pub(crate) queue: VecDeque<usize>,
+    pub(crate) is_settling: bool,
     pub(crate) idle_seconds: u64,
     pub(crate) counts: Counts,
 }
@@ -203,12 +229,14 @@ impl<S: Stream + Drop> Table<S> {
     /// A table without a connection, with a place in its queue for each of so many. A connection that is silent
     /// for so many seconds is ended, none if it is 0.
     pub fn new(alloc: Global, most: usize, idle_seconds: u64) -> Result<Self, AllocError>
-        ensures { IfOk result (λ table. (key : ℕ) → get table.entries key ≡ None) }
+        ensures none { IfOk result (λ table. (key : ℕ) → get table.entries key ≡ None) }
+        ensures idle { IfOk result (λ table. table.idle_seconds ≡ idle_seconds) }
     {
         let queue = VecDeque::with_capacity(alloc, most)?;
         Ok(Table {
             entries: Slab::new(alloc),
             queue,
+            is_settling: false,
             idle_seconds,
             counts: Counts {
                 sessions: 0,
@@ -268,7 +296,9 @@ impl<S: Stream + Drop> Table<S> {
         ensures others { (other : ℕ) → other ≢ key → get self.new.entries other ≡ get self.old.entries other }
         ensures gone { get self.new.entries key ≡ None → (get self.old.entries key ≡ None) ⊎ IsFull self.old }
         ensures queued { (entry : Entry S) → get self.old.entries key ≡ Some entry → entry.is_queued ≡ false
-            → IsFull self.old ⊎ (self.new.queue.items ≡ self.old.queue.items ++ key ∷ []) }
+            → ((get self.new.entries key ≡ None) × IsFull self.old) ⊎ (self.new.queue.items ≡ self.old.queue.items ++ key ∷ []) }
+        ensures queue { (self.new.queue.items ≡ self.old.queue.items) ⊎ (self.new.queue.items ≡ self.old.queue.items ++ key ∷ []) }
+        ensures settling { self.new.is_settling ≡ self.old.is_settling }
     {
         if self.is_woken(key) && self.queue.push_back(key).is_err() {
             let _ = self.end(key);
@@ -280,7 +310,7 @@ impl<S: Stream + Drop> Table<S> {
         ensures among { AreAmong self.old self.new }
         ensures others { (other : ℕ) → other ≢ key → get self.new.entries other ≡ get self.old.entries other }
         ensures gone { get self.new.entries key ≡ None → get self.old.entries key ≡ None }
-        ensures queue { self.new.queue ≡ self.old.queue }
+        ensures queue { (self.new.queue ≡ self.old.queue) × (self.new.is_settling ≡ self.old.is_settling) }
         ensures woken { (entry : Entry S) → get self.old.entries key ≡ Some entry → entry.is_queued ≡ false → result ≡ true }
     {
         match self.entries.get_mut(key) {
@@ -294,6 +324,7 @@ impl<S: Stream + Drop> Table<S> {
         ensures among { AreAmong self.old self.new }
         ensures others { (other : ℕ) → other ≢ key → get self.new.entries other ≡ get self.old.entries other }
         ensures gone { get self.new.entries key ≡ None }
+        ensures queue { (self.new.queue ≡ self.old.queue) × (self.new.is_settling ≡ self.old.is_settling) }
     {
         let entry = self.entries.try_remove(key)?;
         self.count(1, u32::from(!entry.is_right()));
@@ -305,6 +336,7 @@ impl<S: Stream + Drop> Table<S> {
         ensures among { AreAmong self.old self.new }
         ensures others { (other : ℕ) → other ≢ key → get self.new.entries other ≡ get self.old.entries other }
         ensures gone { get self.new.entries key ≡ None }
+        ensures queue { (self.new.queue ≡ self.old.queue) × (self.new.is_settling ≡ self.old.is_settling) }
     {
         if let Some(entry) = self.end(key) {
             entry.leave(room);
@@ -313,14 +345,16 @@ impl<S: Stream + Drop> Table<S> {
 
     // Counts sessions that have ended.
     fn count(&mut self, sessions: u32, others: u32)
-        ensures { self.new.entries ≡ self.old.entries }
+        ensures entries { self.new.entries ≡ self.old.entries }
+        ensures queue { (self.new.queue ≡ self.old.queue) × (self.new.is_settling ≡ self.old.is_settling) }
     {
         self.counts.sessions = self.counts.sessions.saturating_add(sessions);
         self.counts.others = self.counts.others.saturating_add(others);
     }
 
     /// A round: each connection that is queued when it begins has one turn. One that has more to do is queued
-    /// again, after the others, and one that is done is ended.
+    /// again, after the others, and one that is done is ended. All that have come to a Settle are told what one
+    /// Settle of the caller tells, which begins after their turns.
     pub fn round<C: Sharing + Drop>(
         &mut self,
         alloc: Global,
@@ -331,12 +365,74 @@ impl<S: Stream + Drop> Table<S> {
         ensures sessions { (beginnings : ℕ → Beginning C)
             → HaveSessions C.exchanges C.resumes C.opened S.remaining S.contents beginnings self.old caller.old.caller
             → HaveSessions C.exchanges C.resumes C.opened S.remaining S.contents beginnings self.new caller.new.caller }
+        ensures asked { NoneAwaits self.old → IsRound C.exchanges C.resumes caller.old.caller self.new caller.new.caller }
+        ensures none { NoneAwaits self.old → NoneAwaits self.new }
+        ensures led { Led C.exchanges C.resumes caller.old.caller caller.new.caller }
+    {
+        self.turns(alloc, caller, room, now);
+        self.settle(alloc, caller);
+    }
+
+    // The turns of a round.
+    fn turns<C: Sharing + Drop>(
+        &mut self,
+        alloc: Global,
+        caller: &mut Shared<C>,
+        room: &mut Room,
+        now: u64,
+    )
+        ensures sessions { (beginnings : ℕ → Beginning C)
+            → HaveSessions C.exchanges C.resumes C.opened S.remaining S.contents beginnings self.old caller.old.caller
+            → HaveSessions C.exchanges C.resumes C.opened S.remaining S.contents beginnings self.new caller.new.caller }
+        ensures queued { AreQueued self.old → AreQueued self.new }
         ensures led { Led C.exchanges C.resumes caller.old.caller caller.new.caller }
     {
         for _ in 0..self.queue.len() {
             if let Some(key) = self.queue.pop_front() {
                 self.turn(alloc, caller, room, key, now);
             }
+        }
+    }
+
+    // Asks one Settle for all that await one, if there are some, and tells it to them.
+    fn settle<C: Sharing + Drop>(&mut self, alloc: Global, caller: &mut Shared<C>)
+        ensures sessions { (beginnings : ℕ → Beginning C)
+            → HaveSessions C.exchanges C.resumes C.opened S.remaining S.contents beginnings self.old caller.old.caller
+            → HaveSessions C.exchanges C.resumes C.opened S.remaining S.contents beginnings self.new caller.new.caller }
+        ensures asked { AreQueued self.old → SettlesAll C.exchanges C.resumes self.old caller.old.caller self.new caller.new.caller }
+        ensures led { Led C.exchanges C.resumes caller.old.caller caller.new.caller }
+    {
+        if !self.is_settling {
+            return;
+        }
+        self.is_settling = false;
+        let reply = settled(caller.caller.settle());
+        for index in 0..self.queue.len() {
+            if let Some(key) = self.queue.get(index).copied() {
+                self.tell_settled(alloc, caller, &reply, key);
+            }
+        }
+    }
+
+    // Tells it to one connection, if there is one under the key that awaits it.
+    fn tell_settled<C: Sharing + Drop>(
+        &mut self,
+        alloc: Global,
+        caller: &mut Shared<C>,
+        reply: &WireReply,
+        key: usize,
+    )
+        ensures sessions { (beginnings : ℕ → Beginning C) (from mid : C) (told : Result ℕ Refusal) → reply.now ≡ settle_told told → C.exchanges from (Settles told) mid → Led C.exchanges C.resumes mid caller.old.caller
+            → HaveSessionsSince C.exchanges C.resumes C.opened S.remaining S.contents beginnings self.old from caller.old.caller
+            → HaveSessionsSince C.exchanges C.resumes C.opened S.remaining S.contents beginnings self.new from caller.new.caller }
+        ensures others { (other : ℕ) → other ≢ key → get self.new.entries other ≡ get self.old.entries other }
+        ensures settled { (was : Entry S) → get self.old.entries key ≡ Some was → (is : Entry S) × (get self.new.entries key ≡ Some is) × IsSettledOrSame (reply_spelling reply.now) was is }
+        ensures none { get self.old.entries key ≡ None → get self.new.entries key ≡ None }
+        ensures queue { self.new.queue ≡ self.old.queue }
+        ensures led { Led (ButSettles C.exchanges) C.resumes caller.old.caller caller.new.caller }
+    {
+        if let Some(entry) = self.entries.get_mut(key) {
+            entry.tell_settled(alloc, caller, reply);
         }
     }
 
@@ -358,11 +454,18 @@ impl<S: Stream + Drop> Table<S> {
         ensures ended { (beginning : Beginning C) (entry : Entry S) → get self.old.entries key ≡ Some entry
             → HasSession C.exchanges C.resumes C.opened S.remaining S.contents beginning entry caller.old.caller → get self.new.entries key ≡ None
             → (last : Entry S) × HasSession C.exchanges C.resumes C.opened S.remaining S.contents beginning last caller.new.caller × (IsDone last ⊎ IsFull self.old) }
+        ensures queued { (self.new.queue.items ≡ self.old.queue.items) ⊎ (self.new.queue.items ≡ self.old.queue.items ++ key ∷ []) }
+        ensures awaits { (entry : Entry S) → get self.new.entries key ≡ Some entry → AwaitsSettle entry.connection → (self.new.queue.items ≡ self.old.queue.items ++ key ∷ []) × (self.new.is_settling ≡ true) }
+        ensures settling { self.old.is_settling ≡ true → self.new.is_settling ≡ true }
         ensures led { Led C.exchanges C.resumes caller.old.caller caller.new.caller }
     {
         match self.turn_of(alloc, caller, room, key, now) {
             Next::Wait => {}
             Next::Again => self.wake(key),
+            Next::Settle => {
+                self.is_settling = true;
+                self.wake(key);
+            }
             Next::Close => self.end_done(key, room),
         }
     }
@@ -384,7 +487,8 @@ impl<S: Stream + Drop> Table<S> {
             → HasSession C.exchanges C.resumes C.opened S.remaining S.contents beginning entry caller.old.caller
             → (last : Entry S) × (get self.new.entries key ≡ Some last) × HasSession C.exchanges C.resumes C.opened S.remaining S.contents beginning last caller.new.caller }
         ensures next { (entry : Entry S) → get self.new.entries key ≡ Some entry → IsNext result entry.connection }
-        ensures queue { self.new.queue ≡ self.old.queue }
+        ensures unqueued { (entry : Entry S) → get self.new.entries key ≡ Some entry → entry.is_queued ≡ false }
+        ensures queue { (self.new.queue ≡ self.old.queue) × (self.new.is_settling ≡ self.old.is_settling) }
         ensures led { Led C.exchanges C.resumes caller.old.caller caller.new.caller }
     {
         match self.entries.get_mut(key) {
@@ -405,6 +509,16 @@ impl<S: Stream + Drop> Table<S> {
             .retain(|_, entry| !entry.is_over(idle_seconds, now));
         let ended = u32::try_from(before.saturating_sub(self.entries.len())).unwrap_or(u32::MAX);
         self.count(ended, ended);
+    }
+}
+
+// The reply to a Settle, by what the caller told.
+fn settled(told: Result<u64, Refusal>) -> WireReply
+    ensures { result ≡ settle_told told }
+{
+    match told {
+        Ok(number) => WireReply::Settled(number),
+        Err(refusal) => WireReply::refused(refusal),
     }
 }
 

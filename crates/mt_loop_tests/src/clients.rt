@@ -22,16 +22,26 @@ pub struct Client {
     pub taken: Cell<usize>,
 }
 
-/// A client that opens this tenant, and asks for so many Settles.
-pub fn client_of(alloc: Global, tenant: u32, settles: u32) -> Result<Client, AllocError> {
+/// A client that opens this tenant, removes a key so many times, and asks for so many Settles.
+pub fn client_of(
+    alloc: Global,
+    tenant: u32,
+    removes: u32,
+    settles: u64,
+) -> Result<Client, AllocError> {
     let tenant = tenant.to_be_bytes();
     let mut asked = Vec::from_slice(alloc, &[0, 0, 0, 5, 1])?;
     asked.extend_from_slice(&tenant)?;
     let mut told = Vec::from_slice(alloc, &[0, 0, 0, 1, 0])?;
+    for remove in 1..=removes {
+        asked.extend_from_slice(&[0, 0, 0, 4, 4, 0, 1, 0x6b])?;
+        told.extend_from_slice(&[0, 0, 0, 9, 11])?;
+        told.extend_from_slice(&tenant)?;
+        told.extend_from_slice(&remove.to_be_bytes())?;
+    }
     for settle in 1..=settles {
         asked.extend_from_slice(&[0, 0, 0, 1, 6])?;
         told.extend_from_slice(&[0, 0, 0, 9, 7])?;
-        told.extend_from_slice(&tenant)?;
         told.extend_from_slice(&settle.to_be_bytes())?;
     }
     Ok(Client {
@@ -52,10 +62,10 @@ impl Client {
 }
 
 /// Clients of the tenants from 0 on, so many.
-pub fn clients_of(alloc: Global, count: u32, settles: u32) -> Result<Vec<Client>, AllocError> {
+pub fn clients_of(alloc: Global, count: u32, removes: u32) -> Result<Vec<Client>, AllocError> {
     let mut clients = Vec::new(alloc);
     for tenant in 0..count {
-        clients.push(client_of(alloc, tenant, settles)?)?;
+        clients.push(client_of(alloc, tenant, removes, 0)?)?;
     }
     Ok(clients)
 }
@@ -127,20 +137,22 @@ impl Write for End<'_> {
     }
 }
 
-/// A Settle is told the tenant in the high half of its number, and in the low one how many the tenant has asked for. A
-/// command is told a row of 1,024 bytes. All requests are counted.
+/// A remove is told the tenant in the high half of a stamp, and in the low one how many the tenant has asked for. A get is
+/// told a row of 1,024 bytes, and a Settle how many there were. All requests are counted.
 #[derive(Drop)]
 pub struct Counter {
-    settles: Vec<u32>,
+    removes: Vec<u32>,
     opened: Option<u32>,
+    pub settles: u64,
     pub requests: usize,
 }
 
 /// A caller for so many tenants.
 pub fn counter_of(alloc: Global, tenants: usize) -> Result<Shared<Counter>, AllocError> {
     let caller = Counter {
-        settles: Vec::from_elem(alloc, 0, tenants)?,
+        removes: Vec::from_elem(alloc, 0, tenants)?,
         opened: None,
+        settles: 0,
         requests: 0,
     };
     Ok(Shared { caller })
@@ -155,6 +167,17 @@ fn long_row(alloc: Global) -> Result<Row, AllocError> {
     Err(AllocError)
 }
 
+impl Counter {
+    fn remove(&mut self) -> Result<Reply, CallerFault> {
+        let tenant = self.opened.unwrap_or(u32::MAX);
+        let Some(removes) = self.removes.get_mut(tenant as usize) else {
+            return Err(CallerFault::Stuck);
+        };
+        *removes = removes.saturating_add(1);
+        Ok(Reply::Stale(u64::from(tenant) << 32 | u64::from(*removes)))
+    }
+}
+
 impl Caller for Counter {
     ghost exchanges = { λ _ _ _. Unit {0} };
 
@@ -164,8 +187,11 @@ impl Caller for Counter {
         Ok(())
     }
 
-    fn call(&mut self, alloc: Global, _command: Command) -> Result<Reply, CallerFault> {
+    fn call(&mut self, alloc: Global, command: Command) -> Result<Reply, CallerFault> {
         self.requests = self.requests.saturating_add(1);
+        if !matches!(command, Command::Get { .. }) {
+            return self.remove();
+        }
         match long_row(alloc) {
             Ok(row) => Ok(Reply::Found(StampedRow { stamp: 0, row })),
             Err(_) => Err(CallerFault::Stuck),
@@ -174,12 +200,8 @@ impl Caller for Counter {
 
     fn settle(&mut self) -> Result<u64, Refusal> {
         self.requests = self.requests.saturating_add(1);
-        let tenant = self.opened.unwrap_or(u32::MAX);
-        let Some(settles) = self.settles.get_mut(tenant as usize) else {
-            return Err(Refusal::NoStore);
-        };
-        *settles = settles.saturating_add(1);
-        Ok(u64::from(tenant) << 32 | u64::from(*settles))
+        self.settles = self.settles.saturating_add(1);
+        Ok(self.settles)
     }
 }
 

@@ -12,14 +12,14 @@ use std::test::Fail;
 use std::thread;
 use std::time::Clock;
 
-// Of the 34 bytes of five Settles so many come: how much they are told, and whether the session ends as it should.
+// Of the 49 bytes of five removes so many come: how much they are told, and whether the session ends as it should.
 fn expect(rt: &impl Abort, alloc: Global, asked: usize, calls: [Calls; 2], wanted: (usize, bool)) {
-    let mut client = client_of(alloc, 7, 5).expect(rt, "memory");
+    let mut client = client_of(alloc, 7, 5, 0).expect(rt, "memory");
     client.asked.truncate(asked);
     let mut stream = client.streams(calls);
     let mut caller = counter_of(alloc, 8).expect(rt, "memory");
     let mut connection = Connection::new(alloc);
-    for _ in 0..50 {
+    for _ in 0..80 {
         let next = stream.turn(alloc, &mut connection, &mut caller, &mut [0; 64]);
         if matches!(next, Next::Close) {
             break;
@@ -32,9 +32,9 @@ fn expect(rt: &impl Abort, alloc: Global, asked: usize, calls: [Calls; 2], wante
 // How much they are told for so many bytes, and whether these end with a frame.
 fn told_for(asked: usize) -> (usize, bool) {
     match asked.checked_sub(9) {
-        Some(settles) => {
-            let told = (settles / 5).saturating_mul(13).saturating_add(5);
-            (told, settles % 5 == 0)
+        Some(removes) => {
+            let told = (removes / 8).saturating_mul(13).saturating_add(5);
+            (told, removes % 8 == 0)
         }
         None => (0, asked == 0),
     }
@@ -47,23 +47,27 @@ fn each_request_is_answered_once_whatever_the_streams_do(rt: HostRuntime) {
     for place in 0..72usize {
         for (size, fault) in [(1, ErrorKind::WouldBlock), (7, ErrorKind::Interrupted)] {
             let call = Calls(size, place, fault);
-            expect(&rt, alloc, 34, [call, Calls::good(ALL)], (70, true));
-            expect(&rt, alloc, 34, [one, call], (70, true));
+            expect(&rt, alloc, 49, [call, Calls::good(ALL)], (70, true));
+            expect(&rt, alloc, 49, [one, call], (70, true));
         }
         let reset = Calls(1, place, ErrorKind::ConnectionReset);
-        let (told, is_whole) = told_for(place.min(34));
-        expect(&rt, alloc, 34, [reset, one], (told, place >= 35));
-        expect(&rt, alloc, 34, [one, reset], (place.min(70), place >= 70));
+        let (told, is_whole) = told_for(place.min(49));
+        expect(&rt, alloc, 49, [reset, one], (told, place >= 50));
+        expect(&rt, alloc, 49, [one, reset], (place.min(70), place >= 70));
         expect(&rt, alloc, place, [one, one], (told, is_whole));
     }
 }
 
-// So many Settles are asked for, and as many gets as makes 60; so many bytes come in a read. The client takes so much in
+// So many removes are asked for, and as many gets as makes 60; so many bytes come in a read. The client takes so much in
 // all before a turn; after it, it has given so much, and so many requests were answered.
 const TURNS: [(u32, usize, [(usize, usize, usize); 3]); 4] = [
-    (130, ALL, [(ALL, 659, 64), (ALL, 659, 128), (9, 659, 131)]),
-    (200, 100, [(0, 100, 19), (7, 100, 19), (238, 100, 19)]),
-    (200, 100, [(0, 100, 19), (239, 200, 39), (ALL, 300, 59)]),
+    (
+        130,
+        ALL,
+        [(ALL, 1_049, 64), (ALL, 1_049, 128), (9, 1_049, 131)],
+    ),
+    (200, 100, [(0, 100, 12), (7, 100, 12), (147, 100, 12)]),
+    (200, 100, [(0, 100, 12), (148, 200, 24), (ALL, 300, 37)]),
     (0, ALL, [(0, 549, 33), (0, 549, 33), (ALL, 549, 61)]),
 ];
 
@@ -71,9 +75,9 @@ const TURNS: [(u32, usize, [(usize, usize, usize); 3]); 4] = [
 #[test]
 fn a_turn_answers_so_many_and_none_while_replies_are_unsent(rt: HostRuntime) -> Result<(), Fail> {
     let alloc = rt.alloc();
-    for &(settles, size, turns) in &TURNS {
-        let mut client = client_of(alloc, 7, settles)?;
-        for _ in settles..60 {
+    for &(removes, size, turns) in &TURNS {
+        let mut client = client_of(alloc, 7, removes, 0)?;
+        for _ in removes..60 {
             let get = [0, 0, 0, 5, 2, 0, 1, 0x6b, 0];
             client.asked.extend_from_slice(&get)?;
         }
@@ -81,7 +85,7 @@ fn a_turn_answers_so_many_and_none_while_replies_are_unsent(rt: HostRuntime) -> 
         let (mut connection, mut caller) = (Connection::new(alloc), counter_of(alloc, 8)?);
         for (takes, given, requests) in turns {
             client.takes.set(takes);
-            let _ = stream.turn(alloc, &mut connection, &mut caller, &mut [0; 1_024]);
+            let _ = stream.turn(alloc, &mut connection, &mut caller, &mut [0; 2_048]);
             let got = (client.given.get(), caller.caller.requests);
             assert_eq!(&rt; got, (given, requests));
         }
@@ -107,6 +111,31 @@ fn each_client_is_told_its_own_replies(rt: HostRuntime) -> Result<(), Fail> {
     assert!(rt; clients.iter().all(|client| client.taken.get() == 44));
     let counts = table.counts();
     assert_eq!(rt; (counts.sessions, counts.others), (100, 0));
+    Ok(())
+}
+
+// Clients that ask for 0 to 3 Settles, one after the other. All that await one at a time are told the same one.
+#[test]
+fn one_settle_is_told_to_all_that_await_one(rt: HostRuntime) -> Result<(), Fail> {
+    let (alloc, mut clients) = (rt.alloc(), Vec::new(rt.alloc()));
+    for tenant in 0..4u32 {
+        clients.push(client_of(alloc, tenant, 2, u64::from(tenant))?)?;
+    }
+    let (mut caller, mut room) = (counter_of(alloc, 4)?, Room::new(alloc)?);
+    let mut table = Table::new(alloc, 4, 0)?;
+    for client in &clients {
+        let _ = table.begin(alloc, &caller, client.streams([Calls::good(ALL); 2]), 0);
+    }
+    (0..4).for_each(|key| table.wake(key));
+    for _ in 0..5 {
+        table.round(alloc, &mut caller, &mut room, 0);
+    }
+    assert!(rt;
+        clients
+            .iter()
+            .all(|client| client.taken.get() == client.told.len())
+    );
+    assert_eq!(rt; (caller.caller.settles, caller.caller.requests), (3, 15));
     Ok(())
 }
 

@@ -33,8 +33,8 @@ pub enum Stop {
 /// Answers the whole requests at the front of the input, one after the other, `calls` at most, and takes
 /// them off the input. It stops after the first whose reply leaves the output full.
 ///
-/// The replies come after what the output holds. What has no room there is written before. The only
-/// error is that the writer failed.
+/// The replies come after what the output holds. What has no room there is written before. The caller is asked for
+/// `calls` requests at most, also if memory runs out. The only error is that the writer failed.
 pub fn answer<C: Caller, W: Sink>(
     alloc: Global,
     caller: &mut C,
@@ -44,7 +44,7 @@ pub fn answer<C: Caller, W: Sink>(
     writer: &mut W,
     calls: u32,
 ) -> Result<Stop, ServeFault>
-    ensures answered { (count : ℕ) × (count ≤ calls) × (result ≡ Ok Stop.Full → (FULL_BYTES ≤ length output.new.items) ⊎ (count ≡ calls))
+    ensures answered { (count : ℕ) × (count ≤ calls) × (result ≡ Ok Stop.Full → (FULL_BYTES ≤ length output.new.items) ⊎ (count ≡ calls)) × (result ≡ Ok Stop.Memory → count < calls)
         × IsAnswered C.exchanges count input.old.items opened.old caller.old (W.contents writer.old) output.old.items result input.new.items opened.new caller.new (W.contents writer.new) output.new.items }
     ensures onward { result ≡ Ok Stop.Full → 0 < calls → length input.new.items < length input.old.items }
     ensures held { OnOk result (length output.old.items ≤ 65536 → length output.new.items ≤ 65536) }

@@ -28,6 +28,7 @@ returns-then-len-ge-FULL_BYTES-clause-answered g c =
       c.loop.counter + 1,
       omega arith,
       λ e. inl (omega arith),
+      λ e. absurd cc,
       (text ++ reply_spelling reply, one_more g.C.Caller.exchanges c.loop.counter _ _ _ text _ _ _ _ _ _ reply transcript answers, Buffers-trans _ _ _ _ _ _ text (reply_spelling reply) put more),
     )
 

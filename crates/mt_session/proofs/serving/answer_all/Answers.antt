@@ -14,7 +14,7 @@ loop-init g c =
 pub loop-preserved : goal.loop-preserved
 loop-preserved g c =
     let (count, text, transcript, put, fewer) = c.loop.invariant in
-    let (n, few, full, answers) = rw c.in-Full.is at c.in_ok-answer.ensures.answered in
+    let (n, few, full, last, answers) = rw c.in-Full.is at c.in_ok-answer.ensures.answered in
     let (more, then, puts) = answers in
     (count + n, text ++ more, of_then g.C.Caller.exchanges count n _ _ _ text more _ _ _ _ _ _ transcript then, Buffers-trans _ _ _ [] _ _ text more put puts, NoFewer-trans _ _ _ fewer c.in_ok-answer.ensures.counts)
 
@@ -22,7 +22,7 @@ pub returns-in_err-answer-clause-written : goal.returns-in_err-answer-clause-wri
 returns-in_err-answer-clause-written g c =
     let p = err_from_is_err_and c.from_residual.result c.from_residual.ensures.1 in
     let (count, text, transcript, put, fewer) = c.loop.invariant in
-    let (n, few, full, answers) = c.in_err-answer.ensures.answered in
+    let (n, few, full, last, answers) = c.in_err-answer.ensures.answered in
     let call = c.answer.new in
     let all = answered_then g.C.Caller.exchanges count n _ _ call.input.items text [] _ call.output.items _ _ call.opened _ _ call.caller _ _ (g.W.Sink.contents call.writer) (Err c.in_err-answer.field-0.0) transcript put answers in
     let (fault, written) = round_failed g.C.Caller.exchanges (count + n) _ call.input.items [] call.output.items _ call.opened _ call.caller _ (g.W.Sink.contents call.writer) c.in_err-answer.field-0.0 refl all in
@@ -31,7 +31,7 @@ returns-in_err-answer-clause-written g c =
 pub returns-in-Ok-clause-written : goal.returns-in-Ok-clause-written
 returns-in-Ok-clause-written g c =
     let (count, text, transcript, put, fewer) = c.loop.invariant in
-    let (n, few, full, answers) = c.in_ok-answer.ensures.answered in
+    let (n, few, full, last, answers) = c.in_ok-answer.ensures.answered in
     let stop = c.in_ok-answer.field-0 in
     let call = c.answer.new in
     let all = answered_then g.C.Caller.exchanges count n _ _ call.input.items text [] _ call.output.items _ _ call.opened _ _ call.caller _ _ (g.W.Sink.contents call.writer) (Ok stop) transcript put answers in
@@ -45,7 +45,7 @@ returns-in-Ok-clause-written g c =
 pub returns-in-Err-clause-written : goal.returns-in-Err-clause-written
 returns-in-Err-clause-written g c =
     let (count, text, transcript, put, fewer) = c.loop.invariant in
-    let (n, few, full, answers) = c.in_ok-answer.ensures.answered in
+    let (n, few, full, last, answers) = c.in_ok-answer.ensures.answered in
     let call = c.answer.new in
     let all = answered_then g.C.Caller.exchanges count n _ _ call.input.items text [] _ call.output.items _ _ call.opened _ _ call.caller _ _ (g.W.Sink.contents call.writer) (Ok c.in_ok-answer.field-0) transcript put answers in
     round_lost g.C.Caller.exchanges (count + n) _ call.input.items [] call.output.items _ call.opened _ call.caller _ (g.W.Sink.contents call.writer) _ c.in_ok-answer.field-0 refl all c.in-Err.ensures.err

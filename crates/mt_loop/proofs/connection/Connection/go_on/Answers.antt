@@ -1,4 +1,5 @@
 use Rattle.mt_streams.specs.Failures.{Failed}
+use Rattle.mt_loop.specs.Deeds.{ButSettles}
 use Rattle.mt_loop.proofs.{Deeds.asked_none, Sessions.{sent_on, read_once, pressed}}
 use Rattle.mt_loop.proofs.connection.Connection.go_on.Goals as goal
 
@@ -34,4 +35,4 @@ returns-clause-pressure g c =
     pressed _ _ _ _ _ _ c.args.self.now.unsent.bytes.items c.send.new.self.unsent.bytes.items sent more c.send.new.self.input.items c.receive-is_drained.new.self.input.items c.args.self.now.state c.send.new.self.state c.receive-is_drained.new.self.state some step c.if-not-send.ensures.all c.receive-is_drained.ensures.read then
 
 pub returns-then-not-send-clause-asked : goal.returns-then-not-send-clause-asked
-returns-then-not-send-clause-asked g c = asked_none g.C.Caller.exchanges c.args.caller.now
+returns-then-not-send-clause-asked g c = asked_none (ButSettles g.C.Caller.exchanges) c.args.caller.now
