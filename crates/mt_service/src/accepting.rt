@@ -131,6 +131,7 @@ impl<'a, R: Wait + Log + Clock> Porter<'a, R> {
     // Says how many connections were closed since this was last said.
     fn tell_closed(&self, closed: u64) {
         let (workers, each) = (self.doors.len(), self.each);
-        warn!(self.rt; "{closed} connections were closed: {workers} workers serve {each} each");
+        let limit = workers.saturating_mul(each as usize);
+        warn!(self.rt; "{closed} closed past the limit of {limit} connections: {workers} times {each}");
     }
 }
