@@ -8,7 +8,7 @@
         connection.put_if(b"greeting", stamp, {0: b"hi"})
 
 The first part spells requests and reads replies, as pure functions over bytes. The second part is the
-connection. docs/CLIENTS.md says what the bytes mean.
+connection, and a pool of connections for many threads. docs/CLIENTS.md says what the bytes mean.
 
 Keys, columns and counts past the server's limits are not looked for here: the server refuses them by
 name. Only what can't be spelled at all is refused by this module (`NotSpellable`).
@@ -16,8 +16,10 @@ name. Only what can't be spelled at all is refused by this module (`NotSpellable
 
 from __future__ import annotations
 
+import collections
 import contextlib
 import enum
+import functools
 import os
 import queue
 import selectors
@@ -25,19 +27,24 @@ import socket
 import struct
 import threading
 import time
-from collections.abc import Collection, Iterable, Iterator, Mapping, Sequence
+from collections.abc import Callable, Collection, Iterable, Iterator, Mapping, Sequence
 from dataclasses import dataclass
 from pathlib import Path
-from typing import ClassVar, NoReturn
+from typing import ClassVar, NoReturn, TypeVar
 
 DEFAULT_HOST = "127.0.0.1"
 DEFAULT_PORT = 7411
 PORTS = range(1, 65_536)
+DEFAULT_TIMEOUT = 10.0  # seconds that a call waits for the server, if it is told nothing else
 LONGEST_WAIT = 1_000_000  # seconds; the system's calls take no more than some two million
+DEFAULT_POOL = 8  # connections of a pool
+LARGEST_POOL = 65_536
 
 # The longest bodies of frames, in bytes.
 REQUEST_BYTES = 32_768
 REPLY_BYTES = 1_066_882
+
+Result = TypeVar("Result")
 
 # What the server takes; a reply that goes past these is no reply.
 KEY_BYTES = 251
@@ -62,7 +69,7 @@ class WrongType(NotSpellable, TypeError):
 
 
 class BadArgument(RebjautsError, ValueError):
-    """A port or a time limit that can't be one."""
+    """A port, a time limit or a size of a pool that can't be one."""
 
 
 class BadMap(RebjautsError):
@@ -90,6 +97,14 @@ class ConnectionEnded(ConnectionFault):
     def __init__(self, why: str, unanswered: int = 0) -> None:
         super().__init__(f"{why}; requests without a reply: {unanswered}")
         self.unanswered = unanswered
+
+
+class TookTooLong(ConnectionEnded):
+    """The server took longer than the time limit: it may be busy, or hang. The connection is closed."""
+
+
+class PoolBusy(RebjautsError):
+    """All connections of a pool were taken for longer than the time limit: nothing was sent."""
 
 
 class Full(RebjautsError):
@@ -604,7 +619,7 @@ class Connection:
     """
 
     def __init__(
-        self, host: str = DEFAULT_HOST, port: int = DEFAULT_PORT, timeout: float | None = None
+        self, host: str = DEFAULT_HOST, port: int = DEFAULT_PORT, timeout: float | None = DEFAULT_TIMEOUT
     ) -> None:
         _check_port(port)
         _check_wait(timeout)
@@ -635,6 +650,13 @@ class Connection:
             self._is_open = False
             self._selector.close()
             self._socket.close()
+
+    def is_idle(self) -> bool:
+        """Whether it can be asked: it is open, no exchange is under way, and nothing has come unasked, as its end would."""
+        if not self._is_open or self._waiting or self._read_at < len(self._received):
+            return False
+        self._selector.modify(self._socket, selectors.EVENT_READ)
+        return not self._selector.select(0)
 
     def open(self, tenant: int) -> None:
         """Opens a tenant: once for each connection, and before anything else."""
@@ -693,6 +715,28 @@ class Connection:
     def count(self, prefix: bytes = b"") -> int:
         """How many keys begin with `prefix`, by one scan after the other."""
         return sum(1 for _ in self.keys(prefix))
+
+    def removals(self, prefix: bytes) -> Iterator[bool]:
+        """Removes all keys that begin with `prefix`; gives for each whether it was still there.
+
+        They are removed a scan's worth at a time, in one exchange with the next scan. A key that is put meanwhile may stay.
+        After an error some are removed, and the others can be by another call.
+        """
+        found = self.scan(prefix, SCAN_PAIRS, False, [COLUMNS - 1])
+        while keys := [key for key, _ in found if key.startswith(prefix)]:
+            with self.pipeline() as pipe:
+                for key in keys:
+                    pipe.remove(key)
+                pipe.scan(keys[-1], SCAN_PAIRS, True, [COLUMNS - 1])
+            yield from (result for result in pipe.results[:-1] if isinstance(result, bool))
+            for result in pipe.results:
+                if isinstance(result, RebjautsError):
+                    raise result
+            found = pipe.results[-1]
+
+    def clear(self, prefix: bytes) -> int:
+        """Removes all keys that begin with `prefix`, with b"" all of the tenant, as `removals` does; how many it removed."""
+        return sum(self.removals(prefix))
 
     def settle(self) -> int:
         """Waits until all that was answered before, to any client, is on the disk; how far the logs reach."""
@@ -765,7 +809,7 @@ class Connection:
         events = selectors.EVENT_READ | (selectors.EVENT_WRITE if self._unsent else 0)
         self._selector.modify(self._socket, events)
         if not self._selector.select(self._timeout):
-            raise ConnectionEnded(f"the server took over {self._timeout} seconds", self._waiting)
+            raise TookTooLong(f"the server took over {self._timeout} seconds", self._waiting)
         self._receive()
 
     def _send(self) -> int:
@@ -859,7 +903,7 @@ class Pipeline:
 
 
 def connect(
-    tenant: int, host: str = DEFAULT_HOST, port: int = DEFAULT_PORT, timeout: float | None = None
+    tenant: int, host: str = DEFAULT_HOST, port: int = DEFAULT_PORT, timeout: float | None = DEFAULT_TIMEOUT
 ) -> Connection:
     """A connection with the tenant opened."""
     connection = Connection(host, port, timeout)
@@ -871,12 +915,130 @@ def connect(
     return connection
 
 
+class Pool:
+    """Connections to one server with one tenant opened, for many threads: each call takes one, and gives it back.
+
+    At most `size` are made, each when it is wanted, and anew if it has ended. Who finds all taken waits for one, and is told
+    `PoolBusy` after `timeout` seconds. A process that forks makes its pool after that.
+
+    A connection that broke in the midst of a request leaves open whether that took effect. A read (`get`, `get_stamped`, `scan`)
+    changes nothing, so it is sent once more, over a new connection. Nothing else is ever sent again: the call raises
+    `ConnectionEnded`, and its caller decides by what is there. Nor is a settle: if the server was started anew, a second
+    one would be answered, though the changes that the first was to cover are lost. After `TookTooLong` a read isn't sent again either.
+    """
+
+    def __init__(
+        self, tenant: int, host: str = DEFAULT_HOST, port: int = DEFAULT_PORT,
+        timeout: float | None = DEFAULT_TIMEOUT, size: int = DEFAULT_POOL,
+    ) -> None:
+        _check_port(port)
+        _check_wait(timeout)
+        encode_request(Open(tenant))
+        if not isinstance(size, int) or not 1 <= size <= LARGEST_POOL:
+            raise BadArgument(f"the pool's size is {size!r}, and has to be a number from 1 to {LARGEST_POOL}")
+        self._make = functools.partial(connect, tenant, host, port, timeout)
+        self._timeout, self._size = timeout, size
+        self._places = threading.Semaphore(size)
+        self._free: collections.deque[Connection] = collections.deque()  # whose ends are safe for threads
+        self._is_open = True
+
+    def __enter__(self) -> Pool:
+        return self
+
+    def __exit__(self, *_: object) -> None:
+        self.close()
+
+    def close(self) -> None:
+        """Ends the connections that nobody has taken, and the others when they are given back."""
+        self._is_open = False
+        self._end_free()
+
+    @contextlib.contextmanager
+    def connection(self) -> Iterator[Connection]:
+        """A connection for this thread alone, until the end of the `with`: for pipelines, and for many calls in a row."""
+        if not self._places.acquire(timeout=self._timeout):
+            raise PoolBusy(f"all {self._size} connections of the pool were taken for {self._timeout} seconds: "
+                           "give it more, or take them for less long")
+        try:
+            connection = self._taken()
+            try:
+                yield connection
+            finally:
+                self._give_back(connection)
+        finally:
+            self._places.release()
+
+    def _taken(self) -> Connection:
+        if not self._is_open:
+            raise ConnectionEnded("the pool is closed")
+        with contextlib.suppress(IndexError):
+            while True:
+                connection = self._free.pop()
+                if connection.is_idle():
+                    return connection
+                connection.close()
+        return self._make()
+
+    def _give_back(self, connection: Connection) -> None:
+        if not connection.is_idle():
+            connection.close()
+            return
+        self._free.append(connection)
+        if not self._is_open:
+            self._end_free()
+
+    def _end_free(self) -> None:
+        with contextlib.suppress(IndexError):
+            while True:
+                self._free.pop().close()
+
+    def _read(self, ask: Callable[[Connection], Result]) -> Result:
+        try:
+            with self.connection() as connection:
+                return ask(connection)
+        except ConnectionEnded as ended:
+            if isinstance(ended, TookTooLong) or not ended.unanswered:
+                raise
+        self._end_free()  # the other connections are likely to be broken too
+        with self.connection() as connection:
+            return ask(connection)
+
+    def get(self, key: bytes, columns: Sequence[int] = ()) -> list[bytes] | None:
+        return self._read(lambda connection: connection.get(key, columns))
+
+    def get_stamped(self, key: bytes, columns: Sequence[int] = ()) -> tuple[int, list[bytes] | None]:
+        return self._read(lambda connection: connection.get_stamped(key, columns))
+
+    def scan(
+        self, start: bytes, count: int, after: bool = False, columns: Sequence[int] = ()
+    ) -> list[tuple[bytes, list[bytes]]]:
+        return self._read(lambda connection: connection.scan(start, count, after, columns))
+
+    def put(self, key: bytes, columns: Mapping[int, bytes]) -> Written:
+        with self.connection() as connection:
+            return connection.put(key, columns)
+
+    def put_if(self, key: bytes, stamp: int, columns: Mapping[int, bytes]) -> Written:
+        with self.connection() as connection:
+            return connection.put_if(key, stamp, columns)
+
+    def remove(self, key: bytes) -> bool:
+        with self.connection() as connection:
+            return connection.remove(key)
+
+    def settle(self) -> int:
+        with self.connection() as connection:
+            return connection.settle()
+
+
 def ping(
     host: str = DEFAULT_HOST, port: int = DEFAULT_PORT, timeout: float = 1.0, tenant: int | None = None
 ) -> float:
-    """In how many seconds a server answers, connecting included; `ConnectionFault` after `timeout` in all.
+    """In how many seconds a server answers, connecting included.
 
-    Without a tenant it asks for a key of none, which a server that serves refuses. With one it opens it.
+    Without a tenant it asks for a key of none, which a server that serves refuses. With one it opens it. `CannotConnect`
+    says that nobody listens there. `ConnectionEnded` says that somebody does who is full or hangs: it ended the connection,
+    or took over `timeout` seconds in all (`TookTooLong`).
     """
     _check_port(port)
     _check_wait(timeout)
@@ -884,7 +1046,7 @@ def ping(
 
     def ask() -> None:
         try:
-            outcome.put(_answer_time(host, port, timeout, tenant))
+            outcome.put(_answer_time(host, port, min(timeout + 1, LONGEST_WAIT), tenant))  # the wait below ends first
         except RebjautsError as error:
             outcome.put(error)
 
@@ -893,7 +1055,7 @@ def ping(
     try:
         found = outcome.get(timeout=timeout)
     except queue.Empty:
-        raise ConnectionEnded(f"{host}:{port} took over {timeout} seconds", 1) from None
+        raise TookTooLong(f"{host}:{port} took over {timeout} seconds", 1) from None
     if isinstance(found, RebjautsError):
         raise found
     return found
@@ -955,7 +1117,7 @@ class TenantMap:
         except KeyError:
             raise BadMap(f"{self._name} has no line for tenant {tenant}") from None
 
-    def connect(self, tenant: int, timeout: float | None = None) -> Connection:
+    def connect(self, tenant: int, timeout: float | None = DEFAULT_TIMEOUT) -> Connection:
         """A connection to the tenant's server, with the tenant opened."""
         place = self.place(tenant)
         return connect(tenant, place.host, place.port, timeout)
