@@ -922,9 +922,11 @@ class Pool:
     `PoolBusy` after `timeout` seconds. A process that forks makes its pool after that.
 
     A connection that broke in the midst of a request leaves open whether that took effect. A read (`get`, `get_stamped`, `scan`)
-    changes nothing, so it is sent once more, over a new connection. Nothing else is ever sent again: the call raises
-    `ConnectionEnded`, and its caller decides by what is there. Nor is a settle: if the server was started anew, a second
-    one would be answered, though the changes that the first was to cover are lost. After `TookTooLong` a read isn't sent again either.
+    changes nothing, so it is sent once more, over a new connection, but not after `TookTooLong`. Nothing else is ever sent again: the
+    call raises `ConnectionEnded`, and its caller decides by what is there.
+
+    There is no `settle` here: over a connection that was made anew it would be answered, though the server was started anew, and the
+    changes that it was to cover are lost. Put and settle over one connection, in a `with pool.connection()`.
     """
 
     def __init__(
@@ -1025,10 +1027,6 @@ class Pool:
     def remove(self, key: bytes) -> bool:
         with self.connection() as connection:
             return connection.remove(key)
-
-    def settle(self) -> int:
-        with self.connection() as connection:
-            return connection.settle()
 
 
 def ping(
