@@ -1,7 +1,5 @@
 //! Tests of `mt_core`: a put and gets call by call, runs of events with what each is told, places that are used again, and
 //! `State::restore`: what it restores is there, at the number that was asked for, and counting goes on.
-//!
-//! They stand in a crate of their own, since a crate with tests is proved twice.
 #![tactic(auto)]
 
 #[cfg(test)]

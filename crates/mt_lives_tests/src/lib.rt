@@ -1,7 +1,5 @@
 //! Tests of `mt_lives`: runs with two workers, turns and crashes, stopped at every call of a disk, with each call of a
 //! disk failing once, with two failing, and with a growth refused.
-//!
-//! They stand in a crate of their own, since a crate with tests is proved twice.
 #![tactic(auto)]
 
 #[cfg(test)]

@@ -1,7 +1,5 @@
 //! Tests of the server's parts: its words, the stores in its folders, and whole servers with clients in threads of
 //! the same process.
-//!
-//! They stand in a crate of their own, since a crate with tests is proved twice.
 #![tactic(auto)]
 
 #[cfg(test)]
