@@ -1,0 +1,12 @@
+pub mod Steps
+pub mod Again
+pub mod Lines
+pub mod Only
+pub mod Firm
+pub mod Commands
+pub mod Loop
+pub mod Fields
+pub mod Named
+pub mod Values
+pub mod LongStrings
+pub mod Numbers
