@@ -7,12 +7,4 @@
 #![tactic(auto)]
 
 #[cfg(test)]
-mod crashes;
-#[cfg(test)]
-mod pages;
-#[cfg(test)]
-mod slots;
-#[cfg(test)]
-mod two_slots;
-#[cfg(test)]
-mod vectors;
+mod tests;

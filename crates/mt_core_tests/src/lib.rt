@@ -3,16 +3,4 @@
 #![tactic(auto)]
 
 #[cfg(test)]
-mod asked;
-#[cfg(test)]
-mod pairs;
-#[cfg(test)]
-mod recovered;
-#[cfg(test)]
-mod restored;
-#[cfg(test)]
-mod reused;
-#[cfg(test)]
-mod runs;
-#[cfg(test)]
-mod story;
+mod tests;

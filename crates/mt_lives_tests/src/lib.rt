@@ -3,14 +3,4 @@
 #![tactic(auto)]
 
 #[cfg(test)]
-mod asked;
-#[cfg(test)]
-mod failures;
-#[cfg(test)]
-mod notes;
-#[cfg(test)]
-mod runs;
-#[cfg(test)]
-mod stories;
-#[cfg(test)]
-mod turns;
+mod tests;

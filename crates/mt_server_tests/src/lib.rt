@@ -3,28 +3,4 @@
 #![tactic(auto)]
 
 #[cfg(test)]
-mod checkpoints;
-#[cfg(test)]
-mod clients;
-#[cfg(test)]
-mod digests;
-#[cfg(test)]
-mod fake_folders;
-#[cfg(test)]
-mod faults;
-#[cfg(test)]
-mod folders;
-#[cfg(test)]
-mod hosts;
-#[cfg(test)]
-mod loops;
-#[cfg(test)]
-mod servers;
-#[cfg(test)]
-mod stores;
-#[cfg(test)]
-mod verified;
-#[cfg(test)]
-mod words;
-#[cfg(test)]
-mod workers;
+mod tests;

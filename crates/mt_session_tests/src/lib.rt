@@ -11,20 +11,4 @@
 #![tactic(auto)]
 
 #[cfg(test)]
-mod books;
-#[cfg(test)]
-mod frames;
-#[cfg(test)]
-mod framing;
-#[cfg(test)]
-mod hexadecimal;
-#[cfg(test)]
-mod pieces;
-#[cfg(test)]
-mod rows;
-#[cfg(test)]
-mod sessions;
-#[cfg(test)]
-mod turns;
-#[cfg(test)]
-mod ways;
+mod tests;

@@ -7,30 +7,4 @@
 #![tactic(auto)]
 
 #[cfg(test)]
-mod asked;
-#[cfg(test)]
-mod at_once;
-#[cfg(test)]
-mod batons;
-#[cfg(test)]
-mod checks;
-#[cfg(test)]
-mod disks;
-#[cfg(test)]
-mod images;
-#[cfg(test)]
-mod kept_digests;
-#[cfg(test)]
-mod many;
-#[cfg(test)]
-mod old_formats;
-#[cfg(test)]
-mod power;
-#[cfg(test)]
-mod refusals;
-#[cfg(test)]
-mod sessions;
-#[cfg(test)]
-mod stories;
-#[cfg(test)]
-mod turns;
+mod tests;

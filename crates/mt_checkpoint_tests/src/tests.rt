@@ -1,0 +1,5 @@
+mod crashes;
+mod pages;
+mod slots;
+mod two_slots;
+mod vectors;

@@ -1,0 +1,6 @@
+mod asked;
+mod failures;
+mod notes;
+mod runs;
+mod stories;
+mod turns;

@@ -1,0 +1,13 @@
+mod checkpoints;
+mod clients;
+mod digests;
+mod fake_folders;
+mod faults;
+mod folders;
+mod hosts;
+mod loops;
+mod servers;
+mod stores;
+mod verified;
+mod words;
+mod workers;

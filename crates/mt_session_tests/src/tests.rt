@@ -1,0 +1,9 @@
+mod books;
+mod frames;
+mod framing;
+mod hexadecimal;
+mod pieces;
+mod rows;
+mod sessions;
+mod turns;
+mod ways;

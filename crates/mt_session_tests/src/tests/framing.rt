@@ -1,0 +1,26 @@
+//! Frames: a length of four bytes, and a body.
+
+ghost use Rattle.std.specs.Prelude.{◌≤◌, length};
+
+use super::hexadecimal::{bytes_of, many};
+use std::alloc::Global;
+
+/// The frame of a body: its front, and so many times a unit; none as `bytes_of`.
+pub fn framed(alloc: Global, front: &str, unit: &str, times: u32) -> Option<Vec<u8>> {
+    let (front, rest) = (bytes_of(alloc, front)?, many(alloc, unit, times)?);
+    let len = u32::try_from(front.len().saturating_add(rest.len())).ok()?;
+    let len = len.to_be_bytes();
+    let parts = [len.as_slice(), &front, &rest];
+    parts.as_slice().concat(alloc).ok()
+}
+
+/// How many bytes the first frame of these has, of those that are there.
+pub fn front_len(bytes: &[u8]) -> usize
+    ensures { result ≤ length bytes.now }
+{
+    if bytes.len() < 4 {
+        return bytes.len();
+    }
+    let body = u32::from_be_bytes([bytes[0], bytes[1], bytes[2], bytes[3]]);
+    bytes.len().min((body as usize).saturating_add(4))
+}

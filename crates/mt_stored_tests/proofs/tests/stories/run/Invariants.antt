@@ -1,0 +1,11 @@
+use Rattle.mt_stored_tests.proofs.tests.stories.run.Given as goal
+
+-- the ledgers and the history are those that the names are made for
+abbrev pub ghosts-run_named-L-Ledger : goal.ghosts-run_named-L-Ledger
+ghosts-run_named-L-Ledger g a = record { name = a.names.answers.name; parts = a.names.answers.parts }
+
+abbrev pub ghosts-run_named-J-Naming : goal.ghosts-run_named-J-Naming
+ghosts-run_named-J-Naming g a = record { book = a.names.history.seen.book }
+
+abbrev pub ghosts-run_named-J-Ledger : goal.ghosts-run_named-J-Ledger
+ghosts-run_named-J-Ledger g a = record { name = a.names.states.name; parts = a.names.states.parts }

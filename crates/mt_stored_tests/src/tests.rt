@@ -1,0 +1,14 @@
+mod asked;
+mod at_once;
+mod batons;
+mod checks;
+mod disks;
+mod images;
+mod kept_digests;
+mod many;
+mod old_formats;
+mod power;
+mod refusals;
+mod sessions;
+mod stories;
+mod turns;
