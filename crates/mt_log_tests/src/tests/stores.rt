@@ -1,7 +1,7 @@
 //! Stores of up to three workers over disks in memory, three for each worker.
 
-use crate::changes::History;
-use crate::slots::Log;
+use super::changes::History;
+use super::slots::Log;
 use mt_disk::MemDisk;
 use mt_log_files::WorkerFiles;
 use mt_recover::{LogSlot, Recovered};

@@ -1,7 +1,7 @@
 //! Each call of a disk failing, alone and with a later one.
 
-use crate::slots::{Rows, rows_of, unless_device};
-use crate::stores::{Failures, Store};
+use super::slots::{Rows, rows_of, unless_device};
+use super::stores::{Failures, Store};
 use mt_rows::Refusal;
 use std::alloc::Global;
 use std::process::Abort;

@@ -1,6 +1,6 @@
 //! Which log is told where some are not made or opened; and crashes.
 
-use crate::stores::{
+use super::stores::{
     Failures, Logs, NONE, Store, bare_slots, create, images_of, logs_with, mark_of, new_logs,
 };
 use mt_disk::MemDisk;

@@ -3,8 +3,8 @@
 ghost use Rattle.std.specs.Prelude.{◌<◌};
 
 use self::Want::{Falls, Pairs, Told};
-use crate::copies::{WHOLE, image_with};
-use crate::slots::{put, recover_over};
+use super::copies::{WHOLE, image_with};
+use super::slots::{put, recover_over};
 use mt_rows::Refusal;
 use mt_store_logs::FileImages;
 use std::alloc::Global;

@@ -10,8 +10,8 @@
 //! - `keeps WORKER one`, or `none`: whether its log keeps a batch;
 //! - `crash`; `recover STEP STEP`: all changes up to a step are recovered, and the store goes on from another one.
 
-use crate::slots::rows_of;
-use crate::stores::{Failures, NONE, Store};
+use super::slots::rows_of;
+use super::stores::{Failures, NONE, Store};
 use mt_rows::Refusal;
 use std::alloc::{AllocError, Global};
 use std::process::Abort;

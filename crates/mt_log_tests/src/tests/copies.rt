@@ -2,8 +2,8 @@
 
 ghost use Rattle.std.specs.Prelude.{◌<◌};
 
-use crate::slots::{Change, append, new_log, put, recover_over, resume};
-use crate::stores::image_of_log;
+use super::slots::{Change, append, new_log, put, recover_over, resume};
+use super::stores::image_of_log;
 use mt_rows::Refusal;
 use mt_store_logs::FileImages;
 use std::alloc::Global;

@@ -3,7 +3,7 @@ use Rattle.std.proofs.{Common.{◌≡◌, ◌+◌, ◌≤◌, ◌++◌, ◌∷�
 use Rattle.std.specs.List.{All}
 use Rattle.mt_rows.specs.Commands.{IsKey}
 use Rattle.mt_tape.{specs.{declared.entry.Entry.Entry, Tapes.last_step_over}, proofs.EntryLaws.last_step_over-push}
-use Rattle.mt_log_tests.proofs.changes.History.place.Goals as goal
+use Rattle.mt_log_tests.proofs.tests.changes.History.place.Goals as goal
 
 pub invariant_of-self-2-clause-keys : goal.invariant_of-self-2-clause-keys
 invariant_of-self-2-clause-keys c =

@@ -4,7 +4,7 @@ ghost use Rattle.std.specs.{Prelude.{◌≡◌, ◌<◌, ◌≤◌, ◌↔◌, I
 ghost use Rattle.mt_rows.specs.Commands.{IsKey};
 ghost use Rattle.mt_log.specs.Contents.{IsBatch};
 
-use crate::stores::{images_of, logs_with};
+use super::stores::{images_of, logs_with};
 use mt_checkpoint::{Writer, create_slot};
 use mt_disk::MemDisk;
 use mt_log::batch::MAX_STEP;

@@ -1,9 +1,9 @@
 //! A store of one worker, recovered from its plain file and its odd one: which of them are read, over which checkpoint, and
 //! why none are.
 
-use crate::logs::disk_with;
-use crate::slots::{Rows, Walk, append, new_log, put, recover_over, rows_of};
-use crate::stores::image_of_log;
+use super::logs::disk_with;
+use super::slots::{Rows, Walk, append, new_log, put, recover_over, rows_of};
+use super::stores::image_of_log;
 use mt_log::LogFile;
 use mt_rows::Refusal;
 use mt_store_logs::FileImages;

@@ -3,8 +3,8 @@
 
 ghost use Rattle.std.specs.Prelude.{◌≡◌};
 
-use crate::logs::{EMPTY, Told, disk_with, not_opened, opened, read_again};
-use crate::slots::{append, put};
+use super::logs::{EMPTY, Told, disk_with, not_opened, opened, read_again};
+use super::slots::{append, put};
 use mt_disk::MemDisk;
 use mt_log::{FileKind, Front, LogFile};
 use mt_log_files::{begin, give_up, open_numbered, open_slot, take_disk};

@@ -4,7 +4,7 @@ ghost use Rattle.std.specs.{Prelude.{◌≡◌, ◌≤◌, ◌^◌}, List.All};
 ghost use Rattle.mt_rows.specs.Commands.{IsKey};
 ghost use Rattle.mt_tape.specs.Tapes.{last_write};
 
-use crate::slots::{Rows, change_of, key_of, row_of};
+use super::slots::{Rows, change_of, key_of, row_of};
 use mt_drains::{DrainedBatch, batch_after};
 use mt_rows::{Change, Row, StampedRow};
 use mt_store_logs::Source;

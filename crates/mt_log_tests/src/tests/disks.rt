@@ -1,6 +1,6 @@
 //! Disks in memory: which calls fail, and what a crash may leave. Real files: what they keep.
 
-use crate::logs::{Told, append_up_to, opened_on};
+use super::logs::{Told, append_up_to, opened_on};
 use mt_disk::disk::count_failure;
 use mt_disk::{Disk, FileDisk, MemDisk, OsFile};
 use mt_log::LogFile;

@@ -1,7 +1,7 @@
 -- That one record more is taken in, for `batch_of`.
 use Rattle.std.proofs.Common.{arith}
 use Rattle.mt_log_tests.proofs.Records.{one_more}
-use Rattle.mt_log_tests.proofs.slots.batch_of.Goals as goal
+use Rattle.mt_log_tests.proofs.tests.slots.batch_of.Goals as goal
 
 pub loop-change-preserved : goal.loop-change-preserved
 loop-change-preserved c =

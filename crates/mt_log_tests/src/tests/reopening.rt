@@ -1,7 +1,7 @@
 //! A log on which an append failed, opened again by what it knows of its ends.
 
-use crate::logs::{EMPTY, disk_with, go_on, put_at};
-use crate::slots::batch_of;
+use super::logs::{EMPTY, disk_with, go_on, put_at};
+use super::slots::batch_of;
 use mt_disk::MemDisk;
 use mt_log::{AppendFault, FailedLog, LogFile};
 use std::alloc::{AllocError, Global};

@@ -1,6 +1,6 @@
 //! Cuts of a disk on a file of a system whose calls fail: what was written past the new end is let go, and nothing else.
 
-use crate::flushes::words_of;
+use super::flushes::words_of;
 use mt_disk::{CachedDisk, Disk, MemFile};
 use std::alloc::{AllocError, Global};
 use std::test::Fail;

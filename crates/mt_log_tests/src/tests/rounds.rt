@@ -2,9 +2,9 @@
 
 ghost use Rattle.std.specs.Prelude.{◌<◌};
 
-use crate::logs::front_of;
-use crate::slots::{Change, Rows, Steps, Walk, append, new_log, put, recover_over, rows_of};
-use crate::stores::image_of_log;
+use super::logs::front_of;
+use super::slots::{Change, Rows, Steps, Walk, append, new_log, put, recover_over, rows_of};
+use super::stores::image_of_log;
 use mt_log::{Front, LogBatch};
 use mt_recover::cutoff;
 use mt_rows::Refusal;

@@ -1,6 +1,6 @@
 //! Batches, and logs on any disk, that the tests share.
 
-use crate::slots::{Change, batch_of, put};
+use super::slots::{Change, batch_of, put};
 use mt_disk::{Disk, MemDisk};
 use mt_log::{
     AppendFault, BatchReader, FileKind, Front, LogBatch, LogFile, LoggedBatch, OpenFault, ReadBatch,

@@ -1,9 +1,9 @@
 //! A log of two batches, byte by byte, and what comes of each call that makes it.
 
-use crate::logs::{
+use super::logs::{
     EMPTY, Told, append, append_all, disk_with, not_opened, opened, opened_on, read_again,
 };
-use crate::slots::{Change, put};
+use super::slots::{Change, put};
 use mt_disk::MemDisk;
 use mt_log::{FileKind, LogFile, ResumeFault};
 use std::alloc::{AllocError, Global};
