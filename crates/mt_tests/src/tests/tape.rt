@@ -2,7 +2,7 @@
 
 ghost use Rattle.std.specs.Prelude.{◌≡◌};
 
-use crate::rows::{key_of, row_of};
+use super::rows::{key_of, row_of};
 use mt_tape::{Entry, Tape};
 use std::alloc::Global;
 use std::process::Abort;

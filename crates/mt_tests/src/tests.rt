@@ -1,0 +1,6 @@
+mod order;
+mod resp;
+mod rows;
+mod slices;
+mod tape;
+mod version;
