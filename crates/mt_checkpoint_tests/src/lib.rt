@@ -2,8 +2,6 @@
 //! that make no checkpoint, a file of two windows, and what a crash or a failure at any call leaves. Also tests of
 //! `mt_slots`: which slot a checkpoint is written in, and what both are read as; and of `mt_pages`: which pairs a
 //! walk shows.
-//!
-//! They stand in a crate of their own, since a crate with tests is proved twice.
 #![tactic(auto)]
 
 #[cfg(test)]

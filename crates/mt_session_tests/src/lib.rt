@@ -5,9 +5,8 @@
 //! cut, fail, are interrupted and wait. A client of `turns` fails if it is asked for more while a
 //! reply is due. A real one would wait without end: so a test fails, and doesn't hang.
 //!
-//! They stand in a crate of their own, since a crate with tests is proved twice. What no clause says: that
-//! frames and sessions come to these bytes at all, that each reply is written before more is asked, and
-//! how many writes a session takes.
+//! What no clause says: that frames and sessions come to these bytes at all, that each reply is written before more
+//! is asked, and how many writes a session takes.
 #![tactic(auto)]
 
 #[cfg(test)]
