@@ -6,3 +6,18 @@ mod lies;
 mod threads;
 mod tidied;
 mod told;
+
+use self::asked::{Ask, command_of, new_store};
+use self::threads::{Case, expect, open_all};
+use mt_book::{Book, BookLock, Desk, NoGate, Pass, call, open_clerk, open_pass};
+use mt_core::{Displaced, State};
+use mt_history::Naming;
+use mt_rows::{Command, Key};
+use std::alloc::{AllocError, Global};
+use std::marker::{Brand, Send, Sync};
+use std::process::Abort;
+use std::sync::Wait;
+use std::sync::atomic::{AtomicU64, Ordering};
+use std::sync::ledger::{Blank, Ledger};
+use std::thread::{self, Threads};
+use std::time::{Clock, Duration};

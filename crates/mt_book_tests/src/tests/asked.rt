@@ -4,10 +4,8 @@ ghost use Rattle.std.specs.Prelude.{◌≤◌, IfOk};
 ghost use Rattle.mt_state.specs.Begins.{HaveNoPairs};
 ghost use Rattle.mt_book.specs.Keeping.{IsUnasked};
 
-use mt_core::State;
-use mt_rows::{Column, ColumnIndexes, Command, Key, NamedColumns, Tenants};
-use std::alloc::{AllocError, Global};
-use std::process::Abort;
+use super::*;
+use mt_rows::{Column, ColumnIndexes, NamedColumns, Tenants};
 
 // Tenants 7, 8 and 9, which may have 100, 2 and 3 pairs, in a store with so many logs.
 pub(crate) fn new_store(rt: &impl Abort, alloc: Global, logs: u8) -> Result<State, AllocError>

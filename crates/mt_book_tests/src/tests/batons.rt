@@ -1,12 +1,7 @@
 //! The baton: one worker has it, another one waits for it in vain, and who waits goes first after 64 calls.
 
+use super::*;
 use mt_book::{Baton, Runner};
-use std::marker::Sync;
-use std::process::Abort;
-use std::sync::Wait;
-use std::sync::atomic::{AtomicU64, Ordering};
-use std::thread;
-use std::thread::Threads;
 
 // One has it until it gives it back. The other one goes without it meanwhile, and gives back nothing.
 fn expect_one<R: Wait + Abort>(rt: &R, first: Runner<'_>, second: Runner<'_>) {

@@ -5,11 +5,11 @@ ghost use mathlib.Core.List.{IsPrefix};
 ghost use Rattle.mt_history.specs.{Legal.{EndsWith, IsLegal}, Views.MarkView};
 ghost use Rattle.mt_book_tests.specs.Deeds.{Adds, Stepped, Took, Calls, Leads, Counts};
 
-use mt_history::{Follows, Mark, Naming, Opened, Tip};
-use std::marker::{Brand, Model, Send, Sync};
-use std::sync::ledger::Blank;
-use std::sync::{Mutex, Wait};
-use std::thread::{Threads, join};
+use super::*;
+use mt_history::{Follows, Mark, Opened, Tip};
+use std::marker::Model;
+use std::sync::Mutex;
+use std::thread::join;
 
 // How many steps were made, and how many answers were taken.
 type Tally = (u64, u64);

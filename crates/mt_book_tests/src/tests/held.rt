@@ -1,19 +1,9 @@
 //! A call that a gate holds back between two of its steps, while another one is made.
 
-use super::asked::{Ask, command_of};
-use super::threads::{Case, expect, open_passes};
-use mt_book::{BookLock, Gate, NoGate, Pass, call, open_clerk};
-use mt_history::Naming;
+use super::threads::open_passes;
+use super::*;
+use mt_book::Gate;
 use mt_operation::Phase;
-use std::alloc::Global;
-use std::marker::{Send, Sync};
-use std::process::Abort;
-use std::sync::Wait;
-use std::sync::atomic::{AtomicU64, Ordering};
-use std::sync::ledger::Ledger;
-use std::thread;
-use std::thread::Threads;
-use std::time::{Clock, Duration};
 
 // How far the two calls are: the first one is held, the second one is answered.
 const HELD: u64 = 1;

@@ -2,23 +2,12 @@
 
 ghost use Rattle.std.specs.Prelude.{◌≡◌};
 
-use super::asked::{Ask, command_of, new_store};
-use mt_book::{
-    Admission, Admitted, Book, Desk, Look, NoGate, Pass, Stepping, Taken, Taking, Turned, call,
-};
-use mt_core::{Displaced, Opening, Ticket};
-use mt_rows::{Command, Key};
+use super::*;
+use mt_book::{Admission, Admitted, Look, Stepping, Taken, Taking, Turned};
+use mt_core::{Opening, Ticket};
 use mt_state::Move;
-use std::alloc::{AllocError, Global};
-use std::marker::{Brand, Send, Sync};
-use std::process::Abort;
-use std::sync::atomic::{AtomicU64, Ordering};
-use std::sync::ledger::{Blank, Ledger};
-use std::sync::{Arc, Wait};
+use std::sync::Arc;
 use std::test::Fail;
-use std::thread;
-use std::thread::Threads;
-use std::time::{Clock, Duration};
 
 // How a desk lies to a call.
 #[derive(Clone, Copy)]

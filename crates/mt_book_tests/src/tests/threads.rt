@@ -3,21 +3,8 @@
 ghost use Rattle.std.specs.Prelude.{◌≡◌};
 ghost use Rattle.mt_book.specs.{Keeping.IsUnasked, Names.AreNames};
 
-use super::asked::{Ask, command_of, new_store};
-use super::{held, tidied, told};
-use mt_book::{
-    Book, BookLock, Clerk, Desk, Kept, Names, NoGate, Pass, call, gather, open_clerk, open_pass,
-};
-use mt_core::State;
-use mt_history::Naming;
-use std::alloc::Global;
-use std::marker::{Brand, Send, Sync};
-use std::process::Abort;
-use std::sync::Wait;
-use std::sync::ledger::Ledger;
-use std::thread;
-use std::thread::Threads;
-use std::time::Clock;
+use super::{held, tidied, told, *};
+use mt_book::{Clerk, Kept, Names, gather};
 
 /// A pass and its clerk.
 pub(crate) type Caller<'a, L, J> = (Pass<L>, Clerk<'a, L, J>);

@@ -1,16 +1,7 @@
 //! What the tape holds once four threads have put 10,000 times.
 
-use super::threads::{Case, expect, open_all, put_all, put_by_four};
-use mt_book::{Book, BookLock, open_pass};
-use mt_core::Displaced;
-use mt_history::Naming;
-use std::alloc::Global;
-use std::marker::{Send, Sync};
-use std::process::Abort;
-use std::sync::Wait;
-use std::sync::ledger::Ledger;
-use std::thread::Threads;
-use std::time::Clock;
+use super::threads::{put_all, put_by_four};
+use super::*;
 
 // How many puts each of the threads makes.
 const PUTS: u32 = 2_500;

@@ -1,18 +1,10 @@
 //! What three tenants are told by the calls of six workers: behind the lock the same as by a book that is owned alone.
 
-use super::asked::Ask::{self, Get, Put, PutIf, Remove, Scan};
-use super::asked::command_of;
-use super::threads::{Case, expect, open_all};
-use mt_book::{Book, BookLock, Desk, NoGate, Pass, call, open_clerk};
-use mt_history::Naming;
-use mt_rows::{Key, Reply, StampedRow};
+use super::asked::Ask::{Get, Put, PutIf, Remove, Scan};
+use super::*;
+use mt_rows::{Reply, StampedRow};
 use mt_runs::Answer;
-use std::alloc::{AllocError, Global};
 use std::fmt::Write;
-use std::process::Abort;
-use std::sync::Wait;
-use std::sync::ledger::Ledger;
-use std::time::Clock;
 
 const WORKERS: [u8; 6] = [0, 1, 2, 3, 4, 5];
 
