@@ -2,11 +2,9 @@
 
 ghost use Rattle.std.specs.Prelude.{None};
 
-use mt_disk::{FileCalls, OsFile, SystemFile};
-use std::alloc::{AllocError, Global};
+use super::*;
+use mt_disk::{FileCalls, SystemFile};
 use std::fmt::Write;
-use std::io;
-use std::test::Fail;
 
 // A file of seven bytes. It keeps the calls on it, a letter each, with the place or the length that it was given, else 0.
 // Those with these numbers give their number as that of an error.

@@ -1,15 +1,8 @@
 //! A store of one worker, recovered from its plain file and its odd one: which of them are read, over which checkpoint, and
 //! why none are.
 
-use super::logs::disk_with;
-use super::slots::{Rows, Walk, append, new_log, put, recover_over, rows_of};
-use super::stores::image_of_log;
-use mt_log::LogFile;
-use mt_rows::Refusal;
-use mt_store_logs::FileImages;
-use std::alloc::Global;
+use super::*;
 use std::slice;
-use std::test::Fail;
 
 // The rows of the store's only put: key 3, row 1, at step 5. Its log has it in a batch from 0 to 6.
 const PUT_ROWS: Rows = [0, 0, 0, 1, 0, 0, 0, 0];

@@ -2,11 +2,8 @@
 
 ghost use Rattle.std.specs.Prelude.{◌<◌};
 
-use super::slots::{Change, append, new_log, put, recover_over, resume};
-use super::stores::image_of_log;
-use mt_rows::Refusal;
-use mt_store_logs::FileImages;
-use std::alloc::Global;
+use super::slots::resume;
+use super::*;
 
 // What is appended to the log of each of three workers, a word a batch. `STEP` is what its worker placed since its mark, up to
 // that step. `KEPT>STEP` is a resume batch up to a step, and the step that it keeps. Then the step up to which the store is

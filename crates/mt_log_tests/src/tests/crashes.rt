@@ -1,10 +1,8 @@
 //! Appends that are stopped at each call of their disk, and each of some torn images that a crash may
 //! then leave, opened again; each call failing once, and the appends going on.
 
-use super::logs::{EMPTY, Told, disk_with, go_on, opened, opened_on};
-use mt_disk::{Disk, MemDisk};
-use std::alloc::{AllocError, Global};
-use std::test::Fail;
+use super::*;
+use mt_disk::Disk;
 
 // What the log holds once three batches were appended.
 fn whole_image(alloc: Global) -> Result<Vec<u8>, AllocError> {

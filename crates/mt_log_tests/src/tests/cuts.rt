@@ -1,9 +1,8 @@
 //! Cuts of a disk on a file of a system whose calls fail: what was written past the new end is let go, and nothing else.
 
 use super::flushes::words_of;
-use mt_disk::{CachedDisk, Disk, MemFile};
-use std::alloc::{AllocError, Global};
-use std::test::Fail;
+use super::*;
+use mt_disk::Disk;
 
 // What is durable at first, and so many calls may fail.
 const BEFORE: &[u8] = b"abcdef";

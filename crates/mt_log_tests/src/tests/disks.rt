@@ -1,14 +1,11 @@
 //! Disks in memory: which calls fail, and what a crash may leave. Real files: what they keep.
 
-use super::logs::{Told, append_up_to, opened_on};
+use super::logs::append_up_to;
+use super::*;
 use mt_disk::disk::count_failure;
-use mt_disk::{Disk, FileDisk, MemDisk, OsFile};
-use mt_log::LogFile;
-use std::alloc::{AllocError, Global};
-use std::fs;
-use std::fs::File;
-use std::io::{self, ErrorKind};
-use std::test::Fail;
+use mt_disk::{Disk, FileDisk};
+use std::fs::{self, File};
+use std::io::ErrorKind;
 
 // The images that are asked for, each torn, lost, kept, longer or shorter in its way.
 const IMAGES: [&str; 12] = [

@@ -1,10 +1,7 @@
 //! Logs on a file of a system whose syncs fail, as Linux fails them: a sync that follows succeeds without
 //! what was dropped, and a read shows it all the same. Power may be lost at any time.
 
-use super::logs::{EMPTY, Told, go_on, opened};
-use mt_disk::{CachedDisk, MemFile};
-use std::alloc::{AllocError, Global};
-use std::test::Fail;
+use super::*;
 
 // How often a log is opened and appended to.
 const ROUNDS: u32 = 12;

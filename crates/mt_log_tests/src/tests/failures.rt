@@ -1,10 +1,7 @@
 //! Each call of a disk failing, alone and with a later one.
 
-use super::slots::{Rows, rows_of, unless_device};
-use super::stores::{Failures, Store};
-use mt_rows::Refusal;
-use std::alloc::Global;
-use std::process::Abort;
+use super::slots::unless_device;
+use super::*;
 
 // The worker of each step, by the key that it puts; and whether its log is flushed after it.
 const STEPS: [(u8, u8, bool); 8] = [

@@ -1,10 +1,8 @@
 //! A numbered file: made spare, begun with the log of generation 1, given up, and begun with that of generation 3.
 
-use mt_disk::MemDisk;
+use super::*;
 use mt_gates::BeginFault;
 use mt_log_generations::{HeaderFault, begin_generation, create_spare, give_up, read_header};
-use std::alloc::{AllocError, Global};
-use std::test::Fail;
 
 // Worker 0 of 1, generation 1, from step 6 on; and generation 3, from step 20 on.
 const FIRST: [u8; 26] = [

@@ -10,11 +10,7 @@
 //! - `keeps WORKER one`, or `none`: whether its log keeps a batch;
 //! - `crash`; `recover STEP STEP`: all changes up to a step are recovered, and the store goes on from another one.
 
-use super::slots::rows_of;
-use super::stores::{Failures, NONE, Store};
-use mt_rows::Refusal;
-use std::alloc::{AllocError, Global};
-use std::process::Abort;
+use super::*;
 
 /// The words of an act.
 pub fn words_of<'a>(alloc: Global, act: &'a str) -> Result<Vec<&'a str>, AllocError> {

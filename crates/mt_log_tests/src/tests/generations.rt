@@ -3,17 +3,10 @@
 
 ghost use Rattle.std.specs.Prelude.{◌≡◌};
 
-use super::logs::{EMPTY, Told, disk_with, not_opened, opened, read_again};
-use super::slots::{append, put};
-use mt_disk::MemDisk;
-use mt_log::{FileKind, Front, LogFile};
+use super::*;
 use mt_log_files::{begin, give_up, open_numbered, open_slot, take_disk};
 use mt_log_generations::{Header, Parity};
-use mt_recover::{LogSlot, cutoff};
-use mt_rows::Refusal;
-use std::alloc::{AllocError, Global};
 use std::mem;
-use std::test::Fail;
 
 // Worker 1 of 2, generation 1, from step 6 on, without batches.
 const BEGUN: [u8; 26] = [

@@ -1,12 +1,8 @@
 //! Batches, and logs on any disk, that the tests share.
 
-use super::slots::{Change, batch_of, put};
-use mt_disk::{Disk, MemDisk};
-use mt_log::{
-    AppendFault, BatchReader, FileKind, Front, LogBatch, LogFile, LoggedBatch, OpenFault, ReadBatch,
-};
-use mt_rows::Record;
-use std::alloc::{AllocError, Global};
+use super::*;
+use mt_disk::Disk;
+use mt_log::{BatchReader, LoggedBatch, OpenFault, ReadBatch};
 
 /// The header of log 0 of 1, and its closed gate.
 pub const EMPTY: [u8; 9] = [0x4d, 0x54, 0x4c, 0x4f, 0x47, 2, 0, 1, 0];

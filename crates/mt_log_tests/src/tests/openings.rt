@@ -1,17 +1,9 @@
 //! Which log is told where some are not made or opened; and crashes.
 
-use super::stores::{
-    Failures, Logs, NONE, Store, bare_slots, create, images_of, logs_with, mark_of, new_logs,
-};
-use mt_disk::MemDisk;
-use mt_rows::{Refusal, Tenants};
-use mt_slots::{FaultCause, Slot, SlotFault, StoreSlots};
-use mt_store_logs::{
-    FileImages, LogRefusal, NoWatch, StoreLog, StoreRefusal, Watch, crash_logs, open_logs,
-    recover_store,
-};
-use std::alloc::Global;
-use std::test::Fail;
+use super::stores::{Logs, bare_slots, create, mark_of, new_logs};
+use super::*;
+use mt_slots::{FaultCause, Slot, SlotFault};
+use mt_store_logs::{StoreRefusal, Watch};
 
 fn told(log: Option<usize>, refusal: Refusal) -> LogRefusal {
     LogRefusal { log, refusal }

@@ -4,10 +4,7 @@ ghost use Rattle.std.specs.Prelude.{◌<◌};
 
 use self::Want::{Falls, Pairs, Told};
 use super::copies::{WHOLE, image_with};
-use super::slots::{put, recover_over};
-use mt_rows::Refusal;
-use mt_store_logs::FileImages;
-use std::alloc::Global;
+use super::*;
 
 // Where the last byte of a number stands. The log of worker 0 has a batch from 0 to 6 with puts at 1 and 4; a
 // resume batch from 6 to 8 that keeps 5; and a batch from 8 to 9 without records. That of worker 1 has puts at

@@ -1,11 +1,8 @@
 //! A log on which an append failed, opened again by what it knows of its ends.
 
-use super::logs::{EMPTY, disk_with, go_on, put_at};
-use super::slots::batch_of;
-use mt_disk::MemDisk;
-use mt_log::{AppendFault, FailedLog, LogFile};
-use std::alloc::{AllocError, Global};
-use std::test::Fail;
+use super::logs::put_at;
+use super::*;
+use mt_log::FailedLog;
 
 // Where an opening makes six calls, and each of two appends four.
 const FIRST_CALL: u64 = 7;

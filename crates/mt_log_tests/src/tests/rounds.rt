@@ -3,15 +3,8 @@
 ghost use Rattle.std.specs.Prelude.{◌<◌};
 
 use super::logs::front_of;
-use super::slots::{Change, Rows, Steps, Walk, append, new_log, put, recover_over, rows_of};
-use super::stores::image_of_log;
-use mt_log::{Front, LogBatch};
-use mt_recover::cutoff;
-use mt_rows::Refusal;
-use mt_store_logs::FileImages;
-use std::alloc::{AllocError, Global};
-use std::process::Abort;
-use std::test::Fail;
+use super::slots::Steps;
+use super::*;
 
 // What three workers placed: stamp, worker, key, row.
 const PLACED: [(u64, u8, u8, u8); 9] = [

@@ -4,19 +4,16 @@ ghost use Rattle.std.specs.{Prelude.{◌≡◌, ◌<◌, ◌≤◌, ◌↔◌, I
 ghost use Rattle.mt_rows.specs.Commands.{IsKey};
 ghost use Rattle.mt_log.specs.Contents.{IsBatch};
 
-use super::stores::{images_of, logs_with};
+use super::*;
 use mt_checkpoint::{Writer, create_slot};
-use mt_disk::MemDisk;
 use mt_log::batch::MAX_STEP;
-use mt_log::{LogFile, fits};
+use mt_log::fits;
 use mt_rows::key::USER_KEY_BYTES;
 use mt_rows::{
-    Batch, Change as ColumnChange, Column, Key, NamedColumns, Record, Records, Refusal, Row,
-    StampedRow, TenantPair, Tenants, Write,
+    Batch, Change as ColumnChange, Column, Key, NamedColumns, Records, Row, StampedRow, TenantPair,
+    Write,
 };
-use mt_slots::StoreSlots;
-use mt_store_logs::{FileImages, NoWatch, RecoveredStore, recover_store};
-use std::alloc::{AllocError, Global};
+use mt_store_logs::RecoveredStore;
 
 /// A log in memory.
 pub type Log = LogFile<MemDisk>;

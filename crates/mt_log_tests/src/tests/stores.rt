@@ -2,16 +2,10 @@
 
 use super::changes::History;
 use super::slots::Log;
-use mt_disk::MemDisk;
+use super::*;
 use mt_log_files::WorkerFiles;
-use mt_recover::{LogSlot, Recovered};
-use mt_rows::{Refusal, Tenants};
-use mt_slots::StoreSlots;
-use mt_store_logs::{
-    FileImages, LogRefusal, NoWatch, StoreLog, closed_logs, crash_logs, create_logs, flush,
-    flush_and_begin, open_logs, recover_store,
-};
-use std::alloc::{AllocError, Global};
+use mt_recover::Recovered;
+use mt_store_logs::{closed_logs, create_logs, flush, flush_and_begin};
 
 /// The logs of a store, its slots, and what its workers placed.
 #[derive(Drop)]

@@ -1,14 +1,8 @@
 //! A log of two batches, byte by byte, and what comes of each call that makes it.
 
-use super::logs::{
-    EMPTY, Told, append, append_all, disk_with, not_opened, opened, opened_on, read_again,
-};
-use super::slots::{Change, put};
-use mt_disk::MemDisk;
-use mt_log::{FileKind, LogFile, ResumeFault};
-use std::alloc::{AllocError, Global};
-use std::process::Abort;
-use std::test::Fail;
+use super::logs::{append, append_all};
+use super::*;
+use mt_log::ResumeFault;
 
 // Log 0 of 1: a batch from 0 to 6, with a put of tenant 7, key 6b, column 76, at step 5; and a resume
 // batch up to 9, of which 4 are kept.
