@@ -2,12 +2,8 @@
 
 ghost use Rattle.mt_state.specs.Begins.{HaveNoPairs};
 
-use mt_core::{State, Ticket};
-use mt_rows::{Batch, Column, ColumnIndexes, Command, Key, NamedColumns, Tenants};
-use mt_runs::Answer;
-use mt_state::Move;
-use std::alloc::Global;
-use std::process::Abort;
+use super::*;
+use mt_core::Ticket;
 
 /// Tenant 7, which may have so many pairs.
 pub(crate) fn one_tenant(alloc: Global, quota: u32) -> Tenants

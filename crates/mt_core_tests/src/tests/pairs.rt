@@ -1,13 +1,7 @@
 //! Some hundred pairs of three tenants, with short and long keys, and what is asked of a state that has them.
 
-use super::asked::run;
-use mt_core::State;
-use mt_rows::{
-    Batch, Change, Column, ColumnIndexes, Command, Key, NamedColumns, Reply, Row, StampedRow,
-    TenantPair, Write, merge,
-};
-use std::alloc::Global;
-use std::process::Abort;
+use super::*;
+use mt_rows::{Change, Row, StampedRow, Write, merge};
 
 // A number that looks random.
 fn mixed(n: u64) -> u64 {

@@ -5,15 +5,13 @@ ghost use Rattle.mt_rows.specs.TenantPairs.{pairs_of, quota_in, IsTenantPair, Ar
 ghost use Rattle.mt_log.specs.Contents.{IsBatch};
 ghost use Rattle.mt_state.specs.Begins.{HaveNoPairs};
 
+use super::*;
 use mt_checkpoint::Checkpoint;
-use mt_core::State;
 use mt_disk::MemDisk;
 use mt_log::{BatchReader, FileKind, Front, LogFile, ReadBatch, fits};
 use mt_recover::{Source, recover};
 use mt_rows::key::USER_KEY_BYTES;
-use mt_rows::{Batch, Record, Records, Refusal, TenantPair, Tenants, Write};
-use std::alloc::Global;
-use std::process::Abort;
+use mt_rows::{Record, Records, Write};
 
 // Three tenants: one that may have 100 pairs, one that may have 101, and one with room.
 fn three_tenants(alloc: Global) -> Tenants

@@ -1,15 +1,10 @@
 //! What is restored is there, and a state goes on from it.
 
-use super::asked::drained;
 use super::pairs::{
     expect_pairs, expect_stamps, get, push_given, push_pairs, put_pair, stamp_of, tenant_of,
 };
 use super::recovered::restored;
-use mt_core::State;
-use mt_rows::{Refusal, Reply};
-use mt_state::Move;
-use std::alloc::Global;
-use std::process::Abort;
+use super::*;
 
 // How many pairs, of each tenant a third.
 const PAIRS: u64 = 300;

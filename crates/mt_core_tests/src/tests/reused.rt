@@ -1,11 +1,7 @@
 //! Places of nodes that were taken out are used again, once every operation that was begun before has ended.
 
-use super::asked::{end, get, new_store, put, remove, run};
 use super::story::SIXTEEN_KEYS;
-use mt_core::State;
-use mt_state::Move;
-use std::alloc::Global;
-use std::process::Abort;
+use super::*;
 
 // Keys that are put and removed, all alone, and how many places there are after 1,000 such cycles: if nothing else is
 // open, and if an operation has been open since before the first one.

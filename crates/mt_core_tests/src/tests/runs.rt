@@ -3,12 +3,10 @@
 ghost use Rattle.std.specs.List.{All};
 ghost use Rattle.mt_state.specs.Histories.{IsServed};
 
-use super::asked::{get, one_tenant, put, remove};
+use super::asked::one_tenant;
+use super::*;
 use mt_core::run_events;
-use mt_rows::Reply;
 use mt_runs::{Event, Told};
-use std::alloc::Global;
-use std::process::Abort;
 
 // An operation's name, what happens to it, and what it is told by that and by each step behind it. It is a get of a key, a put
 // of a key, `=` and a value, a remove of a key and `-`, or a step if nothing stands.

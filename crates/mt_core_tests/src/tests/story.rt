@@ -1,13 +1,10 @@
 //! One store, call by call.
 
-use super::asked::{drained, end, get, new_store, put, run, taken};
-use mt_core::{State, prepare};
+use super::asked::taken;
+use super::*;
+use mt_core::prepare;
 use mt_operation::Phase;
-use mt_rows::{Refusal, Write};
-use mt_runs::Answer;
-use mt_state::Move;
-use std::alloc::Global;
-use std::process::Abort;
+use mt_rows::Write;
 
 // The answer to a put that nobody is in the way of, by a worker.
 fn put_by(rt: &impl Abort, alloc: Global, state: &mut State, worker: u8, key: &str) -> Answer {
