@@ -1,11 +1,9 @@
 //! What is asked of a state, by operations that run alone, and what it answers. The pairs that two clients put.
 
 use super::sessions::put_of;
-use mt_core::State;
-use mt_rows::{ColumnIndexes, Command, Key, Reply, Row, StampedRow};
+use super::*;
+use mt_rows::Row;
 use mt_state::Move;
-use std::alloc::{AllocError, Global};
-use std::process::Abort;
 
 // A pair: its key, and the only byte of its only column.
 type Pair = ([u8; 9], u8);

@@ -4,27 +4,9 @@
 ghost use Rattle.mt_book.specs.{Keeping.IsUnasked, Names.AreNames};
 
 use super::batons::connected;
-use super::checks::expect_recovered;
-use super::disks::{FlakyDisk, SOUND};
-use super::images::{Left, logs_left};
-use super::sessions::Served;
-use super::stories::{bare_slots, new_store};
-use log::Log;
-use mt_book::Names;
-use mt_crew::Worker;
-use mt_history::Naming;
-use mt_rows::Refusal;
-use mt_slots::{FileDigest, Slot};
-use mt_stored::{Digests, Store};
-use std::alloc::Global;
-use std::marker::{Brand, Send, Sync};
-use std::net::{Net, TcpListener, TcpStream};
-use std::process::Abort;
-use std::sync::Wait;
+use super::*;
+use mt_slots::FileDigest;
 use std::sync::atomic::{AtomicU64, Ordering};
-use std::sync::ledger::Ledger;
-use std::thread::{self, Threads};
-use std::time::{Clock, Duration};
 
 // So often each session puts keys, and settles.
 const TURNS: u16 = 20;
@@ -116,11 +98,10 @@ fn settle_once<L: Ledger, J: Naming, R: Wait + Clock + Log + Abort>(served: &Ser
     assert!(served.rt; session.settle().is_ok());
 }
 
-impl<
-    L: Ledger + Send + Sync,
-    J: Naming + Send + Sync,
+impl<L: Ledger + Send + Sync, J: Naming + Send + Sync, R> Served<'_, L, J, R>
+where
     R: Threads + Wait + Clock + Log + Abort + Sync,
-> Served<'_, L, J, R> {
+{
     // A session of each of four workers, in a thread of its own; how many keys each has put.
     fn four_at_once(&self) -> Vec<u16> {
         let workers = [0, 1, 2, 3].to_vec(self.alloc).expect(self.rt, "memory");
@@ -163,13 +144,8 @@ pub(crate) fn run<L: Ledger + Send + Sync, J: Naming + Send + Sync, R>(
     case: Case,
 )
 where
-    R: Net<Listener = TcpListener, Stream = TcpStream>
-        + Threads
-        + Wait
-        + Clock
-        + Log
-        + Abort
-        + Sync,
+    R: Net<Listener = TcpListener, Stream = TcpStream>,
+    R: Threads + Wait + Clock + Log + Abort + Sync,
     requires names { AreNames L.name L.parts J.name J.parts J.book names store.source.state }
     requires unasked { IsUnasked store.source.state }
 {

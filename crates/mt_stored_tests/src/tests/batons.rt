@@ -1,21 +1,9 @@
 //! When a worker gives the baton of its book back, and that one who keeps it stops nobody.
 
 use super::at_once::{Case, run};
-use super::disks::SOUND;
-use super::sessions::{Served, Session, StoreWorker};
-use super::stories::{bare_slots, new_store};
-use log::Log;
-use mt_book::{Names, Runner};
-use mt_crew::Worker;
-use mt_history::Naming;
+use super::sessions::StoreWorker;
+use super::*;
 use std::io::{self, Read, Write};
-use std::marker::{Brand, Send, Sync};
-use std::net::{Net, TcpListener, TcpStream};
-use std::process::Abort;
-use std::sync::Wait;
-use std::sync::ledger::Ledger;
-use std::thread::{self, Threads};
-use std::time::{Clock, Duration};
 
 // Tenant 7 is opened, and `v` is put under `k`.
 const BATCH: &[u8] =
@@ -73,13 +61,8 @@ fn has_replies(client: &TcpStream) -> bool {
 
 impl<L: Ledger + Send + Sync, J: Naming + Send + Sync, R> Served<'_, L, J, R>
 where
-    R: Net<Listener = TcpListener, Stream = TcpStream>
-        + Threads
-        + Wait
-        + Clock
-        + Log
-        + Abort
-        + Sync,
+    R: Net<Listener = TcpListener, Stream = TcpStream>,
+    R: Threads + Wait + Clock + Log + Abort + Sync,
 {
     // A worker waits for a client that has its replies. It has given the baton back.
     fn expect_free_meanwhile(&self, worker: &mut StoreWorker<'_, L, J, R>, other: Runner<'_>) {

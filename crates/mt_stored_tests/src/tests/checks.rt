@@ -2,26 +2,10 @@
 
 ghost use Rattle.mt_book.specs.{Keeping.IsUnasked, Names.AreNames};
 
-use super::disks::{Fails, FlakyDisk, NEVER};
-use super::images::{disk_with, hold_all_with, tenant_7};
-use super::sessions::{Served, Session};
-use super::stories::{Acts, bare_slots, new_store};
-use log::sink::Locked;
-use log::{Level, Log, Logged};
-use mt_book::Names;
-use mt_disk::MemDisk;
-use mt_history::Naming;
-use mt_rows::Refusal;
-use mt_slots::{Slot, StoreSlots};
-use mt_store_logs::FileImages;
-use mt_stored::{Checks, DueTurn, Store, TurnStop};
-use std::alloc::{AllocError, Global};
-use std::marker::Brand;
-use std::process::Abort;
-use std::sync::Wait;
-use std::sync::ledger::Ledger;
-use std::test::Fail;
-use std::time::Clock;
+use super::images::hold_all_with;
+use super::stories::Acts;
+use super::*;
+use mt_stored::TurnStop;
 
 // How many pairs the checkpoint of each slot has, if there is one, and which slot has the newest.
 type Found = (Option<usize>, Option<usize>, Option<Slot>);

@@ -3,8 +3,9 @@
 ghost use Rattle.std.specs.Prelude.{◌≡◌, [], false, None};
 ghost use Rattle.mt_disk.specs.Disk.{CountsFailure, found_with};
 
+use super::*;
 use mt_disk::disk::count_failure;
-use mt_disk::{DeviceFailed, Disk, SystemError};
+use mt_disk::{DeviceFailed, Disk};
 
 /// Which calls of a disk fail, counted from 1: those from the first number on, up to the second and without it.
 pub(crate) type Fails = (u64, u64);

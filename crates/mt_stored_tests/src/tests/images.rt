@@ -3,16 +3,10 @@
 ghost use Rattle.std.specs.Prelude.{◌≤◌, vec_len, IfOk};
 ghost use Rattle.mt_state.specs.Begins.{HaveNoPairs};
 
-use super::disks::{Fails, FlakyDisk};
-use mt_disk::{MemDisk, SystemError};
+use super::*;
 use mt_log::{BatchReader, FileKind, Front, LogFile, ReadBatch};
-use mt_log_files::WorkerFiles;
-use mt_recover::LogSlot;
-use mt_rows::{Refusal, TenantPair, Tenants};
-use mt_slots::StoreSlots;
-use mt_store_logs::{FileImages, NoWatch, StoreLog, closed_logs, recover_store};
-use std::alloc::{AllocError, Global};
-use std::process::Abort;
+use mt_rows::Tenants;
+use mt_store_logs::{NoWatch, closed_logs, recover_store};
 
 /// A client's key: the client, and the number of the put.
 pub(crate) fn key_of(client: u8, number: u16) -> [u8; 3] {

@@ -1,15 +1,7 @@
 //! Digests of a store's files, kept on disks in memory.
 
-use super::disks::{Fails, FlakyDisk, NEVER};
-use super::images::{Left, disk_with, image_of, left_of};
+use super::*;
 use mt_digests::{FileDigest, agrees, clear_digest, digest_of, write_digest};
-use mt_rows::Refusal;
-use mt_slots::Slot;
-use mt_store_logs::{FileImages, StoreLog};
-use mt_stored::Digests;
-use std::alloc::Global;
-use std::process::Abort;
-use std::sync::{Mutex, Wait};
 
 /// The digests of two workers' logs and of both slots: a disk for each plain, even and odd file, in this order, and then for
 /// each slot.

@@ -1,17 +1,7 @@
 //! A store of 100,100 pairs: they are put, shown, settled, recovered and shown again.
 
-use super::asked::{expect_all, put_all};
-use super::disks::{FlakyDisk, SOUND};
-use super::images::{Left, logs_left};
-use super::stories::{bare_slots, new_store, recovered};
-use log::Log;
-use mt_core::State;
-use mt_store_logs::{FileImages, StoreLog};
-use mt_stored::Store;
-use std::alloc::Global;
-use std::process::Abort;
-use std::sync::Wait;
-use std::time::Clock;
+use super::asked::expect_all;
+use super::*;
 
 // So many times each client puts.
 const PUTS: u16 = 50_050;

@@ -1,20 +1,8 @@
 //! A store whose log and checkpoint are of format 1: it is recovered, goes on, and is recovered again.
 
 use super::asked::asked;
-use super::disks::FlakyDisk;
-use super::images::plain_image;
-use super::many::settled;
 use super::sessions::get_of;
-use super::stories::{self, slots_of};
-use log::Log;
-use mt_core::State;
-use mt_rows::{Column, Command, Key, NamedColumns, Reply, StampedRow};
-use mt_store_logs::FileImages;
-use mt_stored::Store;
-use std::alloc::{AllocError, Global};
-use std::process::Abort;
-use std::sync::Wait;
-use std::time::Clock;
+use super::{stories, *};
 
 /// Log 0 of 1: a batch from 0 to 6, with a put of tenant 7, key 6b, column 76, at step 5; and one from 6 to 9, with a put of
 /// key 6c, column 77, at step 8.

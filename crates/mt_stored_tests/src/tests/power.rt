@@ -4,24 +4,9 @@
 ghost use Rattle.mt_book.specs.{Keeping.IsUnasked, Names.AreNames};
 
 use super::checks::copies_of;
-use super::disks::{FlakyDisk, fails_of};
-use super::images::{Left, key_of, left_of, logs_left, pairs_left, tenant_7};
+use super::images::pairs_left;
 use super::kept_digests::{KeptDigests, digest_disks, does_agree};
-use super::sessions::Served;
-use super::stories::{recovered, slots_of, store_of_two};
-use log::sink::Locked;
-use log::{Level, Log, Logged};
-use mt_book::Names;
-use mt_history::Naming;
-use mt_rows::TenantPair;
-use mt_store_logs::FileImages;
-use mt_stored::{Store, locked_logs, unlocked_logs};
-use std::alloc::Global;
-use std::marker::Brand;
-use std::process::Abort;
-use std::sync::ledger::Ledger;
-use std::sync::{Mutex, Wait};
-use std::time::Clock;
+use super::*;
 
 // In each round two clients put two keys each, one of them settles, and a turn is made.
 const ROUNDS: u16 = 3;

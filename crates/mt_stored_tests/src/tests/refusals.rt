@@ -1,20 +1,8 @@
 //! Stores that are not made, or not recovered, since a call of one of their disks fails.
 
-use super::asked::put_all;
-use super::disks::{Fails, FlakyDisk, NEVER, SOUND, fails_of};
-use super::images::{files_with, plain_image, tenant_7};
-use super::many::settled;
 use super::old_formats::LOG;
-use super::stories::{bare_slots, new_store};
-use log::Log;
-use mt_log_files::WorkerFiles;
-use mt_rows::Refusal;
-use mt_store_logs::{FileImages, LogRefusal, StoreRefusal};
-use mt_stored::Store;
-use std::alloc::{AllocError, Global};
-use std::process::Abort;
-use std::sync::Wait;
-use std::time::Clock;
+use super::*;
+use mt_store_logs::{LogRefusal, StoreRefusal};
 
 // That the disk of a worker's log failed.
 fn device_of(worker: usize) -> Option<StoreRefusal> {

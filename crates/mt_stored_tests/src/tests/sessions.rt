@@ -2,26 +2,12 @@
 
 ghost use Rattle.mt_book.specs.{Keeping.IsUnasked, Names.AreNames};
 
-use super::disks::FlakyDisk;
-use super::images::key_of;
-use log::Log;
-use mt_book::{BookLock, Clerk, Kept, Names, Runner, open_clerk, open_pass};
-use mt_core::State;
-use mt_history::Naming;
+use super::*;
+use mt_book::{BookLock, Clerk, Kept, open_clerk, open_pass};
 use mt_options::TenantQuota;
-use mt_rows::{Column, ColumnIndexes, Command, Key, NamedColumns, Refusal, Reply};
 use mt_service::{DeskCaller, SessionWorker, Turner, Turns};
 use mt_session::{Caller, SessionBuffers};
-use mt_settle::next_generation;
-use mt_store_logs::StoreLog;
-use mt_stored::{
-    Checks, Digests, Keeper, NoDigests, SharedLogs, Store, locked_logs, unlocked_logs,
-};
-use std::alloc::{AllocError, Global};
-use std::process::Abort;
-use std::sync::ledger::Ledger;
-use std::sync::{Mutex, Wait};
-use std::time::Clock;
+use mt_stored::{Keeper, SharedLogs};
 
 /// The tenants that are served.
 const TENANTS: [TenantQuota; 1] = [TenantQuota {

@@ -2,24 +2,8 @@
 
 ghost use Rattle.mt_book.specs.{Keeping.IsUnasked, Names.AreNames};
 
-use super::disks::{FULL, Fails, FlakyDisk, NEVER, SOUND, WANT};
-use super::images::{Left, files_with, hold_all, image_of, logs_left, plain_image, tenant_7};
-use super::sessions::{Served, Session};
-use log::sink::Locked;
-use log::{Level, Log, Logged};
-use mt_book::Names;
-use mt_disk::SystemError;
-use mt_history::Naming;
-use mt_recover::LogSlot;
-use mt_slots::StoreSlots;
-use mt_store_logs::FileImages;
-use mt_stored::Store;
-use std::alloc::{AllocError, Global};
-use std::marker::Brand;
-use std::process::Abort;
-use std::sync::Wait;
-use std::sync::ledger::Ledger;
-use std::time::Clock;
+use super::images::hold_all;
+use super::*;
 
 /// A new store with these slots. Some calls of its files fail: of each worker's plain one, of the even and of the odd one. The
 /// system tells this of them, if anything.

@@ -2,27 +2,7 @@
 
 ghost use Rattle.mt_book.specs.{Keeping.IsUnasked, Names.AreNames};
 
-use super::checks::expect_recovered;
-use super::disks::{FULL, FlakyDisk, NEVER, SOUND, WANT, fails_of};
-use super::images::{self, logs_left};
-use super::sessions::Served;
-use super::stories::{new_store, recovered, store_of_two};
-use log::sink::Locked;
-use log::{Level, Log, Logged};
-use mt_book::Names;
-use mt_disk::SystemError;
-use mt_history::Naming;
-use mt_settle::next_generation;
-use mt_slots::{Slot, StoreSlots};
-use mt_store_logs::{FileImages, StoreLog};
-use mt_stored::{DueTurn, NoDigests, Store};
-use std::alloc::Global;
-use std::marker::Brand;
-use std::process::Abort;
-use std::sync::Wait;
-use std::sync::ledger::Ledger;
-use std::test::Fail;
-use std::time::Clock;
+use super::*;
 
 // Which call fails, counted from 1, and of which disk: of the plain, the even and the odd file of either worker, in this order,
 // or of one of both slots. And which rounds are played, from the first number on, up to the second and without it.
