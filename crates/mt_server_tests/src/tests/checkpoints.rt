@@ -1,23 +1,12 @@
 //! Checkpoints that a server writes into its folder and the turns of its logs, and a start from them.
 
-use super::clients::{
-    GET, GET_BOTH, OPEN, OPEN_8, PUT, PUT_L_FULL, PUT_OTHER, SETTLE, SETTLE_6, Told, WAIT,
-    are_told, connect,
-};
-use super::folders::{SPARE, expect_file, expect_told, opened};
-use super::hosts::Host;
-use super::stores::{serve_beside, serve_told};
+use super::clients::{GET_BOTH, OPEN_8, PUT_L_FULL};
+use super::folders::{expect_file, expect_told};
+use super::*;
 use mt_checkpoint::{Checkpoint, read_valid};
-use mt_disk::MemDisk;
 use mt_rows::TenantPair;
-use mt_service::{FolderDigests, OpenStore};
-use std::alloc::{Alloc, AllocError, Global};
-use std::fs::{self, File};
-use std::io;
-use std::net::{Net, TcpListener, TcpStream};
+use mt_service::FolderDigests;
 use std::os::unix::fs::FileExt;
-use std::rt::Files;
-use std::test::Fail;
 
 const FOLDER: &str = "mt_server_tests_checks";
 

@@ -1,7 +1,7 @@
 //! Clients: frames worked out by hand, and how they are sent.
 
-use std::io::{self, Read, Write};
-use std::net::{Net, TcpListener, TcpStream};
+use super::*;
+use std::io::{Read, Write};
 use std::time::Duration;
 
 /// A request and its reply, of at most 17 bytes. For each `?` of a reply any byte may come.

@@ -1,12 +1,7 @@
 //! The digest of a file in a folder: kept, agreeing, spoiled, cleared and missing.
 
-use mt_slots::Slot;
-use mt_store_files::{OsFolder, StoreFault, StoreFile, StoreFolder};
-use std::alloc::Global;
-use std::fs::{self, File};
-use std::process::Abort;
-use std::rt::Files;
-use std::test::Fail;
+use super::*;
+use mt_store_files::OsFolder;
 
 const FOLDER: &str = "mt_server_tests_digests";
 

@@ -3,17 +3,10 @@
 ghost use Rattle.std.specs.Prelude.{None, OnErr, ◌≡◌, Some, IfErr};
 ghost use Rattle.mt_store_files.specs.Faults.{IsOfFile, IsOfFolder, IsOfSync};
 
-use mt_disk::MemDisk;
-use mt_rows::Refusal;
-use mt_slots::{FileDigest, Slot};
-use mt_store_files::{FolderFile, FolderSystem, StoreFault, StoreFile, StoreFolder};
-use std::alloc::{AllocError, Global};
+use super::*;
+use mt_slots::FileDigest;
+use mt_store_files::FolderSystem;
 use std::fmt::Write;
-use std::fs::File;
-use std::io::{self, ErrorKind};
-use std::process::Abort;
-use std::rt::Files;
-use std::test::Fail;
 
 // A folder of files without a byte, and the calls on it. The one of this number fails.
 #[derive(Drop)]

@@ -1,13 +1,9 @@
 //! What is said of a start that fails, where it takes more than a folder to bring that about.
 
+use super::*;
 use mt_disk::SystemError;
 use mt_log_generations::Parity;
-use mt_rows::Refusal;
-use mt_service::ServerFault;
-use mt_slots::Slot;
-use mt_store_files::{FolderFault, FolderFile, StoreFault, StoreFile, Suspects};
-use std::io::{self, ErrorKind};
-use std::test::Fail;
+use mt_store_files::{FolderFault, Suspects};
 
 #[test]
 fn faults_name_the_folder(rt: HostRuntime) -> Result<(), Fail> {

@@ -3,17 +3,9 @@
 ghost use Rattle.mt_book.specs.Keeping.{IsUnasked};
 
 use super::checkpoints::serve;
-use super::clients::{GET, OPEN, PUT, SETTLE_6};
-use super::hosts::Host;
-use super::stores::{LOG, NEXT_LOG, RESUME, serve_told};
-use super::words::options_of;
-use mt_service::{OpenStore, open_store};
-use std::alloc::{Alloc, AllocError, Global};
-use std::fs::{self, File};
-use std::io;
-use std::process::Abort;
-use std::rt::Files;
-use std::test::Fail;
+use super::stores::RESUME;
+use super::*;
+use mt_service::open_store;
 
 // How the opening that a line names ends: the status, and what is said.
 fn told_of<R: Host + Files<File = File>>(rt: &R, alloc: Global, line: &str) -> String {

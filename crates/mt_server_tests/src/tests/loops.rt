@@ -1,13 +1,7 @@
 //! Servers whose workers serve many connections each.
 
-use super::clients::{GET_NONE, OPEN, connect, connected, is_told};
-use super::stores::{new_store, serve_beside};
 use super::workers::are_answered;
-use mt_stored::NoDigests;
-use std::alloc::Global;
-use std::net::{Net, TcpStream};
-use std::test::Fail;
-use std::{io, thread};
+use super::*;
 
 // How many clients a thread has.
 const CROWD: u32 = 120;

@@ -2,19 +2,9 @@
 
 ghost use Rattle.mt_book.specs.Keeping.{IsUnasked};
 
-use super::clients::{
-    BAD_FRAME, GET, GET_NONE, OPEN, OPEN_UNREAD, PUT, PUT_CUT, REMOVE, REMOVE_NONE, SCAN,
-    SCAN_NONE, Told, are_told, connected,
-};
-use super::hosts::Host;
-use super::stores::{new_store, serve_beside, store_without_logs};
-use mt_disk::MemDisk;
-use mt_stored::{NoDigests, Store};
-use std::alloc::Global;
-use std::io;
-use std::net::{Net, TcpListener, TcpStream};
-use std::process::Abort;
-use std::test::Fail;
+use super::clients::{BAD_FRAME, OPEN_UNREAD, PUT_CUT, REMOVE, REMOVE_NONE, SCAN, SCAN_NONE};
+use super::stores::store_without_logs;
+use super::*;
 
 // What two clients are told, which are connected from the beginning, one behind the other: the first one, the other one beside
 // it, the first one again, which leaves then, and the other one after that.

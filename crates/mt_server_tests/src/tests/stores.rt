@@ -5,29 +5,18 @@ ghost use Rattle.mt_state.specs.Begins.{HaveNoPairs};
 ghost use Rattle.mt_book.specs.Keeping.{IsUnasked};
 
 use super::clients::{
-    GET, GET_AT_10, GET_SPENT, OPEN, PUT, PUT_AT_5, PUT_AT_10, PUT_OTHER, PUT_SPENT, SETTLE_6,
-    SETTLE_FAILS, SETTLE_LAST, Told, WAIT, are_told, connect,
+    GET_AT_10, GET_SPENT, PUT_AT_5, PUT_AT_10, PUT_SPENT, SETTLE_FAILS, SETTLE_LAST,
 };
-use super::hosts::Host;
-use super::words::options_of;
-use log::Log;
+use super::*;
 use mt_book::Names;
-use mt_disk::{Disk, MemDisk};
+use mt_disk::Disk;
 use mt_log_files::WorkerFiles;
 use mt_recover::LogSlot;
 use mt_rows::Tenants;
-use mt_service::{Ending, ServerFault, run_server};
+use mt_service::{Ending, run_server};
 use mt_slots::StoreSlots;
-use mt_store_logs::StoreLog;
-use mt_stored::{Digests, NoDigests, Store};
-use std::alloc::{AllocError, Global};
-use std::io;
-use std::marker::{Brand, Send, Sync};
-use std::net::{Net, TcpListener, TcpStream};
-use std::process::Abort;
-use std::sync::Wait;
-use std::thread::{self, Threads};
-use std::time::Clock;
+use mt_stored::Digests;
+use std::marker::{Brand, Send};
 
 // Tenant 7, which may have 100 pairs, and has none.
 fn tenant_7(rt: &impl Abort, alloc: Global) -> Tenants
@@ -141,13 +130,7 @@ pub(crate) type Served<D> = (Vec<u8>, Result<Ending<D>, ServerFault>);
 
 // Serves to the end, with the options of a line.
 fn serve_all<
-    R: Threads
-        + Wait
-        + Clock
-        + Log
-        + Net<Listener = TcpListener, Stream = TcpStream>
-        + Abort
-        + Sync,
+    R: Host + Net<Listener = TcpListener, Stream = TcpStream>,
     D: Disk + Drop + Send,
     G: Digests + Drop + Send,
 >(
@@ -171,13 +154,7 @@ fn serve_all<
 
 /// A server over a store with the options of a line, while its clients play, who are told what they should be.
 pub(crate) fn serve_beside<
-    R: Threads
-        + Wait
-        + Clock
-        + Log
-        + Net<Listener = TcpListener, Stream = TcpStream>
-        + Abort
-        + Sync,
+    R: Host + Net<Listener = TcpListener, Stream = TcpStream>,
     D: Disk + Drop + Send,
     G: Digests + Drop + Send,
     F: FnOnce() -> io::Result<bool>,

@@ -1,14 +1,7 @@
 //! Stores that are only read: what is said of them, and that their folders stay as they were.
 
-use super::folders::{SPARE, opened};
-use super::hosts::Host;
-use super::stores::{LOG, NEXT_LOG};
-use super::words::options_of;
+use super::*;
 use mt_service::verify_store;
-use std::alloc::{Alloc, Global};
-use std::fs::{self, File};
-use std::io;
-use std::rt::Files;
 
 const FOLDER: &str = "mt_server_tests_verified";
 

@@ -1,10 +1,8 @@
 //! What the words of a command line ask for, or how they are refused.
 
+use super::*;
 use mt_command_line::{OptionsFault, VERSION, read_options};
 use mt_options::Options;
-use std::alloc::{AllocError, Global};
-use std::process::Abort;
-use std::test::Fail;
 
 // The words of a line, as a shell parts them.
 fn words_of(alloc: Global, line: &str) -> Result<Vec<String>, AllocError> {

@@ -1,21 +1,10 @@
 //! Servers of two workers, with a log and a client each, and of eight.
 
-use super::clients::{
-    GET, GET_L, GET_NONE, OPEN, PUT, PUT_L, SETTLE, Told, connect, connected, is_longest_told,
-    is_told,
-};
+use super::clients::{GET_L, PUT_L, is_longest_told};
 use super::servers::TWO_WORKERS;
-use super::stores::{disk_with, image_in, new_store, serve_beside};
-use mt_disk::MemDisk;
+use super::stores::{disk_with, image_in};
+use super::*;
 use mt_log::{BatchReader, FileKind, LogFile, ReadBatch};
-use mt_store_logs::StoreLog;
-use mt_stored::NoDigests;
-use std::alloc::{AllocError, Global};
-use std::io;
-use std::net::TcpStream;
-use std::process::Abort;
-use std::test::Fail;
-use std::thread::{self, Threads};
 
 // A client puts a key, gets it past the 1,024th answer, asks by the longest frame, and settles; whether it is told what it should
 // be.
