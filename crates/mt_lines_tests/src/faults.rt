@@ -30,8 +30,7 @@ impl Read for FailingReader<'_> {
     }
 }
 
-// A writer into a list that takes at most so many bytes at a time and fails at the write of this
-// number.
+// A writer into a list that takes at most so many bytes at a time and fails at the write of this number.
 #[derive(Drop)]
 struct FailingWriter {
     written: Vec<u8>,
@@ -104,8 +103,7 @@ fn each_read_fails_in_turn(rt: HostRuntime) {
     }
 }
 
-// What is printed where so many writes succeed, of at most so many bytes each: one write is a byte, or a
-// line.
+// What is printed where so many writes succeed, of at most so many bytes each: one write is a byte, or a line.
 fn expect_write_fault(rt: &impl Abort, alloc: Global, most: usize, writes: usize) {
     let said =
         "writing failed: other error; what was printed stands, and its last answer may be cut";

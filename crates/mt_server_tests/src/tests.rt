@@ -40,6 +40,6 @@ use std::time::Clock;
 use std::{fs, io, thread};
 
 /// What most servers in tests take of the system: threads, the clock and a log. Sockets and files are named beside it.
-pub(crate) trait Host: Threads + Wait + Clock + Log + Abort + Sync {}
+pub trait Host: Threads + Wait + Clock + Log + Abort + Sync {}
 
 impl<R: Threads + Wait + Clock + Log + Abort + Sync> Host for R {}

@@ -1,5 +1,4 @@
-//! The two slots of a store: which one a checkpoint is written in, what it owes, and what both are read as after a
-//! failure.
+//! The two slots of a store: which one a checkpoint is written in, what it owes, and what both are read as after a failure.
 
 use super::slots::{Told, keys_fit, pairs_of, told_of};
 use mt_checkpoint::SeenCheckpoint;

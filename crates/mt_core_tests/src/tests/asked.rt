@@ -6,7 +6,7 @@ use super::*;
 use mt_core::Ticket;
 
 /// Tenant 7, which may have so many pairs.
-pub(crate) fn one_tenant(alloc: Global, quota: u32) -> Tenants
+pub fn one_tenant(alloc: Global, quota: u32) -> Tenants
     ensures { HaveNoPairs result }
 {
     let mut tenants = Tenants::new(alloc);
@@ -15,13 +15,13 @@ pub(crate) fn one_tenant(alloc: Global, quota: u32) -> Tenants
 }
 
 /// A new store of such a tenant, with so many logs.
-pub(crate) fn new_store(rt: &impl Abort, alloc: Global, logs: u8, quota: u32) -> State {
+pub fn new_store(rt: &impl Abort, alloc: Global, logs: u8, quota: u32) -> State {
     assert!(rt; logs <= 64);
     State::new(alloc, logs, one_tenant(alloc, quota)).expect(rt, "memory")
 }
 
 /// The answer to a command of a worker that nobody is in the way of.
-pub(crate) fn run(
+pub fn run(
     rt: &impl Abort,
     state: &mut State,
     worker: u8,
@@ -34,19 +34,19 @@ pub(crate) fn run(
 }
 
 /// The answer of an operation that nobody is in the way of.
-pub(crate) fn end(rt: &impl Abort, state: &mut State, ticket: Ticket) -> Answer {
+pub fn end(rt: &impl Abort, state: &mut State, ticket: Ticket) -> Answer {
     assert!(rt; state.run_alone(&ticket) == Move::Done);
     taken(rt, state, ticket)
 }
 
 /// The answer of an operation that is finished.
-pub(crate) fn taken(rt: &impl Abort, state: &mut State, ticket: Ticket) -> Answer {
+pub fn taken(rt: &impl Abort, state: &mut State, ticket: Ticket) -> Answer {
     let answer = state.take(ticket).ok();
     answer.expect(rt, "the operation is finished")
 }
 
 /// A put of column 0.
-pub(crate) fn put(rt: &impl Abort, alloc: Global, key: &str, value: &str) -> Command {
+pub fn put(rt: &impl Abort, alloc: Global, key: &str, value: &str) -> Command {
     let change = change_of(rt, alloc, value);
     let key = key_of(rt, alloc, key);
     Command::Put { key, change }
@@ -61,7 +61,7 @@ fn change_of(rt: &impl Abort, alloc: Global, value: &str) -> NamedColumns {
 }
 
 /// A get of these columns, of all where none is named.
-pub(crate) fn get(rt: &impl Abort, alloc: Global, key: &str, columns: &[u8]) -> Command {
+pub fn get(rt: &impl Abort, alloc: Global, key: &str, columns: &[u8]) -> Command {
     let key = key_of(rt, alloc, key);
     let columns = Vec::from_slice(alloc, columns).expect(rt, "memory");
     let columns = ColumnIndexes::new(columns);
@@ -69,7 +69,7 @@ pub(crate) fn get(rt: &impl Abort, alloc: Global, key: &str, columns: &[u8]) -> 
 }
 
 /// A remove.
-pub(crate) fn remove(rt: &impl Abort, alloc: Global, key: &str) -> Command {
+pub fn remove(rt: &impl Abort, alloc: Global, key: &str) -> Command {
     let key = key_of(rt, alloc, key);
     Command::Remove { key }
 }
@@ -79,7 +79,7 @@ fn key_of(rt: &impl Abort, alloc: Global, key: &str) -> Key {
 }
 
 /// The next batch of a worker's log.
-pub(crate) fn drained(rt: &impl Abort, state: &mut State, worker: u8) -> Batch {
+pub fn drained(rt: &impl Abort, state: &mut State, worker: u8) -> Batch {
     assert!(rt; worker < state.logs());
     state.drain(worker).expect(rt, "memory").into_batch()
 }

@@ -10,7 +10,7 @@ fn mixed(n: u64) -> u64 {
 }
 
 /// The tenant of a pair.
-pub(crate) fn tenant_of(n: u64) -> u32 {
+pub fn tenant_of(n: u64) -> u32 {
     match n % 3 {
         0 => 7,
         1 => 8,
@@ -47,13 +47,7 @@ fn row_of(rt: &impl Abort, alloc: Global, n: u64) -> Row {
 }
 
 /// The pairs of these numbers, behind others. The log that puts them gives them their stamps.
-pub(crate) fn push_pairs(
-    rt: &impl Abort,
-    alloc: Global,
-    pairs: &mut Vec<TenantPair>,
-    from: u64,
-    to: u64,
-) {
+pub fn push_pairs(rt: &impl Abort, alloc: Global, pairs: &mut Vec<TenantPair>, from: u64, to: u64) {
     for n in from..to {
         let pair = TenantPair {
             tenant: tenant_of(n),
@@ -68,7 +62,7 @@ pub(crate) fn push_pairs(
 }
 
 /// The new pairs that a log was given, behind others.
-pub(crate) fn push_given(rt: &impl Abort, pairs: &mut Vec<TenantPair>, batch: &Batch) {
+pub fn push_given(rt: &impl Abort, pairs: &mut Vec<TenantPair>, batch: &Batch) {
     for record in batch.records.as_slice() {
         if let Write::Whole(row) = &record.write {
             let pair = TenantPair {
@@ -85,7 +79,7 @@ pub(crate) fn push_given(rt: &impl Abort, pairs: &mut Vec<TenantPair>, batch: &B
 }
 
 /// A get of a pair.
-pub(crate) fn get(rt: &impl Abort, alloc: Global, n: u64) -> Command {
+pub fn get(rt: &impl Abort, alloc: Global, n: u64) -> Command {
     let columns = ColumnIndexes::new(Vec::new(alloc));
     Command::Get {
         key: key_of(rt, alloc, n),
@@ -94,7 +88,7 @@ pub(crate) fn get(rt: &impl Abort, alloc: Global, n: u64) -> Command {
 }
 
 /// The row of each of these pairs is found, with the number of the get's first step, since it was placed before.
-pub(crate) fn expect_pairs(rt: &impl Abort, alloc: Global, state: &mut State, from: u64, to: u64) {
+pub fn expect_pairs(rt: &impl Abort, alloc: Global, state: &mut State, from: u64, to: u64) {
     for n in from..to {
         let answer = run(rt, state, 0, tenant_of(n), get(rt, alloc, n));
         let is_found = is_row_of(rt, alloc, &answer.reply, n);
@@ -112,14 +106,14 @@ fn is_row_of(rt: &impl Abort, alloc: Global, reply: &Reply, n: u64) -> bool {
 }
 
 /// Each of the first pairs has the stamp that is one more than its number.
-pub(crate) fn expect_stamps(rt: &impl Abort, alloc: Global, state: &mut State, to: u64) {
+pub fn expect_stamps(rt: &impl Abort, alloc: Global, state: &mut State, to: u64) {
     for n in 0..to {
         assert!(rt; stamp_of(rt, alloc, state, n) == n + 1, "pair {n}");
     }
 }
 
 /// The stamp of a pair, 0 where its key is missing.
-pub(crate) fn stamp_of(rt: &impl Abort, alloc: Global, state: &mut State, n: u64) -> u64 {
+pub fn stamp_of(rt: &impl Abort, alloc: Global, state: &mut State, n: u64) -> u64 {
     let answer = run(rt, state, 0, tenant_of(n), get(rt, alloc, n));
     match &answer.reply {
         Reply::Found(found) => found.stamp,
@@ -128,7 +122,7 @@ pub(crate) fn stamp_of(rt: &impl Abort, alloc: Global, state: &mut State, n: u64
 }
 
 /// What the put of a pair is told, which may ask for a stamp.
-pub(crate) fn put_pair(
+pub fn put_pair(
     rt: &impl Abort,
     alloc: Global,
     state: &mut State,

@@ -25,7 +25,7 @@ fn three_tenants(alloc: Global) -> Tenants
 }
 
 /// A state with these pairs, as a recovery from a log gives them: each stamped by its step in the log.
-pub(crate) fn restored(
+pub fn restored(
     rt: &impl Abort,
     alloc: Global,
     steps: u64,

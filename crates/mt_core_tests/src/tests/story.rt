@@ -99,7 +99,7 @@ fn a_full_batch_ends_at_its_last_change(rt: HostRuntime) {
     assert_eq!(rt; rest.records.as_slice().len(), 4);
 }
 
-pub(crate) const SIXTEEN_KEYS: [&str; 16] = [
+pub const SIXTEEN_KEYS: [&str; 16] = [
     "a", "b", "c", "d", "e", "f", "g", "h", "i", "j", "k", "l", "m", "n", "o", "p",
 ];
 

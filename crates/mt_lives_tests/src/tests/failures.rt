@@ -99,8 +99,7 @@ fn unopened(rt: &impl Abort, alloc: Global, worker: u8, fate: Fate) -> Option<Ve
     run(rt, alloc, fate, story.expect(rt, "memory").as_str())
 }
 
-// The Settle opens the log again, and ends with the number of the last step.
-// The flush makes the calls 4 to 7.
+// The Settle opens the log again, and ends with the number of the last step. The flush makes the calls 4 to 7.
 #[test]
 fn a_settle_opens_a_log_again(rt: HostRuntime) -> Result<(), Fail> {
     let alloc = rt.alloc();

@@ -20,8 +20,7 @@ const STORY: &str =
     flush 0: flushed 48, crash: recovered 25, get 1 b: found 52, get 2 e: absent 55, get 3 f: absent 58, \
     settle: begun 58, next: turned, next: settled 58";
 
-// Two workers; a turn between whose parts a change falls, and one that a crash gives up; each recovery has all that was
-// settled.
+// Two workers; a turn between whose parts a change falls, and one that a crash gives up; each recovery has all that was settled.
 const CHECKED: &str =
     "put 1 0 a 1: new 6, put 2 1 b 1: new 12, walk 1: no such, check: check begun 12, check: no such, \
     walk 1: check turned, walk 1: check turned, walk 1: check writes 12, walk 1: begun, walk 1: moved, \
@@ -40,8 +39,7 @@ const TIDIED: &str =
     get 4 d: found 45, tidy: tidied, leave 5 0 e 1: finished, settle: begun 51, next: turned, next: settled 51, \
     take 5: new 51, tidy: tidied, get 6 a: found 55";
 
-// A turn in whose Settle the first log's disk fails. None begins before the other log too has all up to the checkpoint's
-// end.
+// A turn in whose Settle the first log's disk fails. None begins before the other log too has all up to the checkpoint's end.
 const UNSETTLED: &str =
     "put 1 0 a 1: new 6, put 2 1 b 1: new 12, check: check begun 12, walk 9: check ended 15, walk 1: device, \
     check: no such, settle: begun 15, next: turned, check: no such, next: settled 15, check: check begun 15, \

@@ -59,8 +59,7 @@ pub fn append_all<D: Disk>(
     }
 }
 
-/// Appends batches of a step each, up to this step or the first call that fails. Gives the disk and the
-/// mark that was reached.
+/// Appends batches of a step each, up to this step or the first call that fails. Gives the disk and the mark that was reached.
 pub fn append_up_to<D: Disk>(alloc: Global, log: LogFile<D>, last: u64) -> (D, u64) {
     let mut log = log;
     for from in log.mark()..last {

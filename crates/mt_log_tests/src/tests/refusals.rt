@@ -84,8 +84,7 @@ const CASES: [(u8, u32, Edit, Edit, Want); 34] = [
     (3, 5, (1, At::ResumeTo, 5), SAME, Falls(1, 6)),
     (3, 5, (1, At::LastTo, 7), SAME, Falls(1, 8)),
     (3, 5, (1, At::Kept, 9), SAME, Falls(1, 6)),
-    // Stamps that don't rise in their batch, or are not over its beginning, or over its end; the
-    // first log given.
+    // Stamps that don't rise in their batch, or are not over its beginning, or over its end; the first log given.
     (3, 5, (1, At::Stamp2, 2), SAME, Falls(1, 2)),
     (3, 5, (1, At::Stamp2, 1), SAME, Falls(1, 1)),
     (3, 5, (1, At::Stamp, 0), SAME, Falls(1, 0)),

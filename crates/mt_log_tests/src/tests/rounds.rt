@@ -88,8 +88,7 @@ fn three_images(alloc: Global) -> Result<Vec<FileImages>, Refusal> {
     Ok(images)
 }
 
-// The checkpoint of a slot. Its pairs are those of keys 0 and 1 at step 10, with their stamps, and one of key 7 that no log
-// has.
+// The checkpoint of a slot. Its pairs are those of keys 0 and 1 at step 10, with their stamps, and one of key 7 that no log has.
 fn walk_in(slot: u8, steps: Steps) -> Option<Walk> {
     let rows = [3, 4, 0, 0, 0, 0, 0, slot.saturating_add(1)];
     let walk = Walk(steps, rows, [3, 4, 0, 0, 0, 0, 0, 1]);

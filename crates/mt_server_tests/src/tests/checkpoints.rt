@@ -21,7 +21,7 @@ const CHECK_0: &str = "mt_server_tests_checks/check-0";
 const CHECK_1: &str = "mt_server_tests_checks/check-1";
 
 /// A server of the store that a line names, which ends; its client is told so.
-pub(crate) fn serve<R: Host + Net<Listener = TcpListener, Stream = TcpStream> + Files<File = File>>(
+pub fn serve<R: Host + Net<Listener = TcpListener, Stream = TcpStream> + Files<File = File>>(
     rt: &R,
     alloc: Global,
     line: &str,

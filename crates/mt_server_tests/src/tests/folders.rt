@@ -20,12 +20,7 @@ fn told_of<R: Host + Files<File = File>>(rt: &R, alloc: Global, line: &str) -> S
 }
 
 /// The opening that a line names ends so: this is the status, and how what is said begins.
-pub(crate) fn expect_told<R: Host + Files<File = File>>(
-    rt: &R,
-    alloc: Global,
-    line: &str,
-    wanted: &str,
-) {
+pub fn expect_told<R: Host + Files<File = File>>(rt: &R, alloc: Global, line: &str, wanted: &str) {
     let told = told_of(rt, alloc, line);
     assert!(rt; told.starts_with(wanted), "{line}: {told}");
 }
@@ -105,7 +100,7 @@ const MADE: [(&str, &[u8]); 8] = [
 ];
 
 /// A numbered file that has no log, or a slot that has no checkpoint.
-pub(crate) const SPARE: &[u8] = b"\x00";
+pub const SPARE: &[u8] = b"\x00";
 
 // A store that is made has these files and no other, also if the folder had logs of more workers.
 #[test]
@@ -285,7 +280,7 @@ fn a_missing_file_is_named_and_stays_missing(rt: HostRuntime) -> Result<(), Fail
 }
 
 // The store that a line names.
-pub(crate) fn opened<R: Host + Files<File = File>>(rt: &R, alloc: Global, line: &str) -> OpenStore
+pub fn opened<R: Host + Files<File = File>>(rt: &R, alloc: Global, line: &str) -> OpenStore
     ensures { IsUnasked result.store.source.state }
 {
     match open_store(rt, alloc, &options_of(rt, alloc, line)) {
@@ -345,11 +340,7 @@ fn a_store_comes_back_from_its_files(rt: HostRuntime) {
 }
 
 // A file has these bytes.
-pub(crate) fn expect_file<R: Files<File = File> + Alloc + Abort>(
-    rt: &R,
-    path: &str,
-    parts: &[&[u8]],
-) {
+pub fn expect_file<R: Files<File = File> + Alloc + Abort>(rt: &R, path: &str, parts: &[&[u8]]) {
     let bytes = fs::read(rt, path).expect(rt, "a file");
     let mut rest = bytes.as_slice();
     for part in parts {

@@ -55,7 +55,7 @@ fn play(scene: Scene, first: TcpStream, second: TcpStream) -> io::Result<bool> {
     }
 }
 
-pub(crate) const TWO_WORKERS: &str = "mt_server --port 0 --workers 2 --sessions 2 7:100";
+pub const TWO_WORKERS: &str = "mt_server --port 0 --workers 2 --sessions 2 7:100";
 
 const ONE_WORKER: &str = "mt_server --port 0 --workers 1 --sessions 2 7:100";
 

@@ -28,7 +28,7 @@ fn tenant_7(rt: &impl Abort, alloc: Global) -> Tenants
 }
 
 /// A store of tenant 7, which may have 100 pairs, that keeps nothing.
-pub(crate) fn store_without_logs(rt: &impl Abort, alloc: Global) -> Store<MemDisk>
+pub fn store_without_logs(rt: &impl Abort, alloc: Global) -> Store<MemDisk>
     ensures { IsUnasked result.source.state }
 {
     Store::without_logs(alloc, tenant_7(rt, alloc)).expect(rt, "memory")
@@ -50,12 +50,7 @@ fn files_on(alloc: Global, plain: MemDisk) -> WorkerFiles<MemDisk> {
 }
 
 /// A new store of tenant 7, which may have 100 pairs, over the files of so many workers. Some calls of each plain file fail.
-pub(crate) fn new_store(
-    rt: &impl Abort,
-    alloc: Global,
-    workers: u8,
-    fails: &[u64],
-) -> Store<MemDisk>
+pub fn new_store(rt: &impl Abort, alloc: Global, workers: u8, fails: &[u64]) -> Store<MemDisk>
     ensures { IsUnasked result.source.state }
 {
     let tenants = tenant_7(rt, alloc);
@@ -87,7 +82,7 @@ fn recovered(rt: &impl Abort, alloc: Global, plain: &[u8]) -> Store<MemDisk>
 }
 
 /// A disk with this image.
-pub(crate) fn disk_with(alloc: Global, image: &[u8]) -> Result<MemDisk, AllocError> {
+pub fn disk_with(alloc: Global, image: &[u8]) -> Result<MemDisk, AllocError> {
     MemDisk::with_image(alloc, image.to_vec(alloc)?, Vec::new(alloc), None)
 }
 
@@ -99,7 +94,7 @@ fn image_of(rt: &impl Abort, alloc: Global, store: Store<MemDisk>) -> Vec<u8> {
 }
 
 /// What a last log has in its file, if that is open.
-pub(crate) fn image_in(rt: &impl Abort, alloc: Global, log: &StoreLog<MemDisk>) -> Vec<u8> {
+pub fn image_in(rt: &impl Abort, alloc: Global, log: &StoreLog<MemDisk>) -> Vec<u8> {
     match log.slot() {
         LogSlot::Open(log) => log.disk().image().to_vec(alloc).expect(rt, "memory"),
         LogSlot::Failed(_) | LogSlot::Closed(_) | LogSlot::Away => panic!(rt; "the log is closed"),
@@ -107,11 +102,11 @@ pub(crate) fn image_in(rt: &impl Abort, alloc: Global, log: &StoreLog<MemDisk>) 
 }
 
 // Log 0 of 1: one batch from 0 to 6, with the put of tenant 7, key `k`, column `v`, by step 5.
-pub(crate) const LOG: &[u8] =
+pub const LOG: &[u8] =
     b"MTLOG\x02\x00\x01\x01\x00\x00\x00\x29\x02\x00\x00\x00\x00\x00\x00\x00\x00\x00\x00\x00\x00\x00\x00\x00\x06\x00\x00\x00\x01\x00\x00\x00\x00\x00\x00\x00\x05\x00\x00\x00\x07\x00\x01k\x01\x01\x00\x01v\x00";
 
 // The batch with which a recovery ends: from 6 to 6, all up to 6 kept. It opens the gate that was closed.
-pub(crate) const RESUME: &[u8] =
+pub const RESUME: &[u8] =
     b"\x01\x00\x00\x00\x19\x01\x00\x00\x00\x00\x00\x00\x00\x06\x00\x00\x00\x00\x00\x00\x00\x06\x00\x00\x00\x00\x00\x00\x00\x06\x00";
 
 // A log of 1 without a change, which goes up to the step before the last that there is.
@@ -119,14 +114,14 @@ const LAST_LOG: &[u8] =
     b"MTLOG\x01\x00\x01\x01\x00\x00\x00\x19\x01\x00\x00\x00\x00\x00\x00\x00\x00\x07\xff\xff\xff\xff\xff\xff\xff\x07\xff\xff\xff\xff\xff\xff\xff\x00";
 
 // The log of generation 1 of the only worker, without batches, which begins after step 6.
-pub(crate) const NEXT_LOG: &[u8] =
+pub const NEXT_LOG: &[u8] =
     b"\x01MTLOG\x03\x00\x01\x00\x00\x00\x00\x00\x00\x00\x01\x00\x00\x00\x00\x00\x00\x00\x06\x00";
 
 /// One session of one worker.
-pub(crate) const ONE_SESSION: &str = "mt_server --port 0 --workers 1 --sessions 1 7:100";
+pub const ONE_SESSION: &str = "mt_server --port 0 --workers 1 --sessions 1 7:100";
 
 /// What a server wrote, and how it ended.
-pub(crate) type Served<D> = (Vec<u8>, Result<Ending<D>, ServerFault>);
+pub type Served<D> = (Vec<u8>, Result<Ending<D>, ServerFault>);
 
 // Serves to the end, with the options of a line.
 fn serve_all<
@@ -153,7 +148,7 @@ fn serve_all<
 }
 
 /// A server over a store with the options of a line, while its clients play, who are told what they should be.
-pub(crate) fn serve_beside<
+pub fn serve_beside<
     R: Host + Net<Listener = TcpListener, Stream = TcpStream>,
     D: Disk + Drop + Send,
     G: Digests + Drop + Send,
@@ -182,10 +177,13 @@ pub(crate) fn serve_beside<
 }
 
 /// A server over a store, and its only client, who is told so; the store that is left.
-pub(crate) fn serve_told<
-    R: Host + Net<Listener = TcpListener, Stream = TcpStream>,
-    D: Disk + Drop + Send,
->(rt: &R, alloc: Global, store: Store<D>, line: &str, told: &[Told]) -> Store<D>
+pub fn serve_told<R: Host + Net<Listener = TcpListener, Stream = TcpStream>, D: Disk + Drop + Send>(
+    rt: &R,
+    alloc: Global,
+    store: Store<D>,
+    line: &str,
+    told: &[Told],
+) -> Store<D>
     requires { IsUnasked store.source.state }
 {
     let listener = TcpListener::bind(rt, ("127.0.0.1", 0u16)).expect(rt, "a socket");
@@ -209,8 +207,7 @@ const KEPT: [(&[Told], u64); 6] = [
 
 const SETTLES_TWICE: &[Told] = &[OPEN, PUT, SETTLE_FAILS, SETTLE_6];
 
-// A settled put is in the log, also one that nobody settled: the server settles at its end. A disk that
-// fails once loses nothing.
+// A settled put is in the log, also one that nobody settled: the server settles at its end. A disk that fails once loses nothing.
 #[test]
 fn what_was_put_is_in_the_log(rt: HostRuntime) {
     for &(told, fail) in &KEPT {

@@ -14,7 +14,7 @@ fn words_of(alloc: Global, line: &str) -> Result<Vec<String>, AllocError> {
 }
 
 // The options of a line, which has no fault.
-pub(crate) fn options_of(rt: &impl Abort, alloc: Global, line: &str) -> Options {
+pub fn options_of(rt: &impl Abort, alloc: Global, line: &str) -> Options {
     let words = words_of(alloc, line).expect(rt, "memory");
     match read_options(alloc, words.as_slice()) {
         Ok(options) => options,

@@ -71,7 +71,7 @@ fn each_worker_has_a_log_of_its_own(rt: HostRuntime) {
 }
 
 /// Opens the sessions of all clients before the first of them asks for more; whether each is told what it should be.
-pub(crate) fn are_answered(clients: &[TcpStream]) -> io::Result<bool> {
+pub fn are_answered(clients: &[TcpStream]) -> io::Result<bool> {
     let mut is_right = true;
     for client in clients {
         is_right = is_told(client, OPEN)? && is_right;

@@ -4,22 +4,16 @@ ghost use Rattle.std.specs.Prelude.{◌≡◌, [], IfOk};
 ghost use Rattle.mt_alone.specs.Runs.{IsIdle};
 
 use super::sessions::two_tenants;
-use super::ways::{End, TestServer};
-use log::Log;
-use mt_alone::{Alone, serve_alone};
+use super::*;
 use mt_book::{Baton, Book, Runner};
 use mt_core::{MAX_STEPS, State};
 use mt_disk::MemDisk;
 use mt_options::TenantQuota;
 use mt_service::{DeskCaller, Turns};
-use mt_session::{ServeFault, serve};
 use mt_stored::{Checks, Keeper, Store};
 use mt_streams::{Sink, Source};
-use std::alloc::{AllocError, Global};
 use std::marker::Brand;
-use std::sync::Wait;
 use std::sync::ledger::{Blank, Ledger};
-use std::time::Clock;
 
 // The tenants of `two_tenants`.
 const TENANTS: [TenantQuota; 2] = [

@@ -1,14 +1,10 @@
 //! Requests and replies.
 
-use super::framing::framed;
-use super::hexadecimal::{bytes_of, many};
+use super::*;
 use mt_rows::{Column, ColumnIndexes, Command, Key, NamedColumns, Refusal};
 use mt_wire::{
-    EncodeFault, Front, RefusalNumber, ReplyFront, Request, WireReply, decode, decode_reply,
-    encode, encode_request,
+    EncodeFault, Front, RefusalNumber, Request, WireReply, decode, encode, encode_request,
 };
-use std::alloc::{AllocError, Global};
-use std::process::Abort;
 
 // What is told of bytes that ask, or else of bytes that tell.
 fn shown(alloc: Global, asks: bool, bytes: &[u8]) -> Result<String, AllocError> {

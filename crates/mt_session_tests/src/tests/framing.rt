@@ -2,8 +2,7 @@
 
 ghost use Rattle.std.specs.Prelude.{◌≤◌, length};
 
-use super::hexadecimal::{bytes_of, many};
-use std::alloc::Global;
+use super::*;
 
 /// The frame of a body: its front, and so many times a unit; none as `bytes_of`.
 pub fn framed(alloc: Global, front: &str, unit: &str, times: u32) -> Option<Vec<u8>> {

@@ -1,9 +1,8 @@
 //! Bytes written as hexadecimal digits.
 
-use std::alloc::Global;
+use super::*;
 
-/// The bytes that words of pairs of hexadecimal digits write; none where a word is no such one, or where
-/// memory is refused.
+/// The bytes that words of pairs of hexadecimal digits write; none where a word is no such one, or where memory is refused.
 pub fn bytes_of(alloc: Global, text: &str) -> Option<Vec<u8>> {
     let mut bytes = Vec::new(alloc);
     for word in text.split(' ') {

@@ -1,8 +1,7 @@
 //! Readers that cut, writers that take little, and both as they fail and are interrupted.
 
-use std::alloc::Global;
-use std::io;
-use std::io::{ErrorKind, Read, Write};
+use super::*;
+use std::io::{Read, Write};
 
 /// A number that no session reaches.
 pub const ALL: usize = 1_000_000;

@@ -1,7 +1,6 @@
 //! Worked sessions: what is asked, what is told, and how each ends.
 
-use super::hexadecimal::bytes_of;
-use std::alloc::Global;
+use super::*;
 
 /// Sessions over new tenants 7 and 8, of which the first may have a hundred pairs and the second one.
 pub const ROWS: [&str; 21] = [
@@ -112,8 +111,7 @@ pub struct Row<'a> {
     pub end: &'a str,
 }
 
-/// The session that a text writes: what is asked, what is told and its end, with `> ` between them. None
-/// as `bytes_of`.
+/// The session that a text writes: what is asked, what is told and its end, with `> ` between them. None as `bytes_of`.
 pub fn row_of<'a>(alloc: Global, text: &'a str) -> Option<Row<'a>> {
     let (asked, rest) = text.split_once("> ")?;
     let (told, end) = rest.split_once("> ")?;

@@ -5,25 +5,15 @@
 ghost use Rattle.mt_state.specs.Begins.{HaveNoPairs};
 
 use super::books::{Booked, Restored};
-use super::framing::framed;
-use super::hexadecimal::{bytes_of, many};
-use super::pieces::{ALL, streams};
-use super::rows::{COMMAND_STAMPS, LAST_ROWS, ROWS, STEP_STAMPS, row_of};
-use super::ways::{End, TestServer, Way, name_of, session, wrong_row};
+use super::rows::{COMMAND_STAMPS, LAST_ROWS, ROWS, STEP_STAMPS};
+use super::ways::{Way, name_of, session, wrong_row};
+use super::*;
 use bytes::BytesMut;
-use log::Log;
-use mt_alone::{Alone, serve_alone, serve_tenants};
+use mt_alone::serve_tenants;
 use mt_rows::{PlainMap, Tenants};
-use mt_session::{
-    PlainCaller, PlainTenant, ServeFault, SessionBuffers, Stop, answer, serve, serve_with,
-};
+use mt_session::{PlainCaller, PlainTenant, SessionBuffers, Stop, answer, serve_with};
 use mt_streams::{Sink, Source};
-use mt_wire::{ReplyFront, decode_reply};
-use std::alloc::{AllocError, Global};
-use std::process::Abort;
-use std::sync::Wait;
 use std::test::Fail;
-use std::time::Clock;
 
 // Tenants 7 and 8, without pairs, of which the first may have a hundred and the second one.
 fn plain_tenants(alloc: Global) -> Result<PlainCaller, AllocError> {
@@ -281,8 +271,7 @@ fn expect_more(
     assert_eq!(rt; name_of(&ended), "closed");
 }
 
-// Eighty puts of tenant 7 make a tree of many nodes; another session reads them all, and one of tenant 8
-// none.
+// Eighty puts of tenant 7 make a tree of many nodes; another session reads them all, and one of tenant 8 none.
 #[test]
 fn a_session_reads_what_another_one_wrote(rt: HostRuntime) {
     let alloc = rt.alloc();

@@ -1,9 +1,7 @@
 //! A client that sends a request only when it has the reply to the one before it.
 
-use super::framing::front_len;
-use std::cell::Cell;
-use std::io;
-use std::io::{ErrorKind, Read, Write};
+use super::*;
+use std::io::{Read, Write};
 
 /// A reader that gives a frame only once the reply to the one before it is written whole, and its end only
 /// behind the last reply. Asked before that it fails, where a client would wait without end.

@@ -1,13 +1,11 @@
 //! Sessions over the streams of this crate, in each way, and whether they are told as rows say.
 
-use super::framing::front_len;
-use super::pieces::{ALL, Written, streams};
-use super::rows::{Row, row_of};
+use super::pieces::Written;
+use super::rows::Row;
 use super::turns::{Counted, Waiting};
-use mt_session::{Ended, ServeFault};
+use super::*;
+use mt_session::Ended;
 use mt_streams::{Sink, Source};
-use std::alloc::Global;
-use std::cell::Cell;
 
 /// How a session ended, or why it failed.
 pub type End = Result<Ended, ServeFault>;

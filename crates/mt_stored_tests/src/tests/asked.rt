@@ -62,7 +62,7 @@ fn scan_of(alloc: Global, last: Option<&Pair>) -> Result<Command, AllocError> {
 }
 
 /// What a command of a worker is answered.
-pub(crate) fn asked(rt: &impl Abort, state: &mut State, worker: u8, command: Command) -> Reply {
+pub fn asked(rt: &impl Abort, state: &mut State, worker: u8, command: Command) -> Reply {
     assert!(rt; worker < state.logs());
     let ticket = state
         .begin(worker, 7, command)
@@ -83,7 +83,7 @@ fn put(rt: &impl Abort, alloc: Global, state: &mut State, client: u8, number: u1
 }
 
 /// Two clients put in turns, each through a worker of its own: at its put of one number and all up to another.
-pub(crate) fn put_all(rt: &impl Abort, alloc: Global, state: &mut State, from: u16, to: u16) {
+pub fn put_all(rt: &impl Abort, alloc: Global, state: &mut State, from: u16, to: u16) {
     for number in from..to {
         put(rt, alloc, state, 0, number);
         put(rt, alloc, state, 1, number);
@@ -117,7 +117,7 @@ fn shows_page(
 
 /// Scans that go on where the last one ended show all pairs of two clients who have put so many times each, once
 /// and in rising order, and no other pair.
-pub(crate) fn expect_all(rt: &impl Abort, alloc: Global, state: &mut State, count: u16) {
+pub fn expect_all(rt: &impl Abort, alloc: Global, state: &mut State, count: u16) {
     let wanted = pairs_of(alloc, count).expect(rt, "memory");
     let mut last: Option<&Pair> = None;
     for (place, page) in wanted.chunks(64).enumerate() {

@@ -128,7 +128,7 @@ where
 
 /// What is done with a new store.
 #[derive(Clone, Copy)]
-pub(crate) enum Case {
+pub enum Case {
     /// Sessions put and settle at once.
     AtOnce,
     /// It is seen who has the baton.
@@ -136,7 +136,7 @@ pub(crate) enum Case {
 }
 
 /// This is done with it.
-pub(crate) fn run<L: Ledger + Send + Sync, J: Naming + Send + Sync, R>(
+pub fn run<L: Ledger + Send + Sync, J: Naming + Send + Sync, R>(
     rt: &R,
     alloc: Global,
     names: Names,

@@ -38,7 +38,7 @@ impl<L: Ledger, J: Naming, R: Wait + Clock + Log + Abort> Session<'_, L, J, R> {
 }
 
 /// A client that has sent this, and the worker's end of its connection.
-pub(crate) fn connected<R: Net<Listener = TcpListener, Stream = TcpStream>>(
+pub fn connected<R: Net<Listener = TcpListener, Stream = TcpStream>>(
     rt: &R,
     sent: &[u8],
     more: &[u8],
@@ -85,7 +85,7 @@ where
     }
 
     /// A session and a worker give the baton back.
-    pub(crate) fn expect_baton_given(&self) {
+    pub fn expect_baton_given(&self) {
         let other = Runner::new(self.book.baton(), 200);
         let mut session = self.session(0);
         session.expect_baton_given(self.rt, other);

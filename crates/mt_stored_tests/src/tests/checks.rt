@@ -11,7 +11,7 @@ use mt_stored::TurnStop;
 type Found = (Option<usize>, Option<usize>, Option<Slot>);
 
 /// What both slots have, in memory.
-pub(crate) fn copies_of(
+pub fn copies_of(
     alloc: Global,
     slots: StoreSlots<FlakyDisk>,
 ) -> Result<StoreSlots<MemDisk>, AllocError> {
@@ -21,7 +21,7 @@ pub(crate) fn copies_of(
 }
 
 /// A recovery from these files and slots gives the pairs of all clients, and uses the newest checkpoint.
-pub(crate) fn expect_recovered(
+pub fn expect_recovered(
     rt: &impl Abort,
     alloc: Global,
     images: &[FileImages],

@@ -8,23 +8,23 @@ use mt_disk::disk::count_failure;
 use mt_disk::{DeviceFailed, Disk};
 
 /// Which calls of a disk fail, counted from 1: those from the first number on, up to the second and without it.
-pub(crate) type Fails = (u64, u64);
+pub type Fails = (u64, u64);
 
 /// None of them.
-pub(crate) const NEVER: Fails = (0, 0);
+pub const NEVER: Fails = (0, 0);
 
 /// What the system tells of a full device.
-pub(crate) const FULL: Option<SystemError> = Some(SystemError::Number(28));
+pub const FULL: Option<SystemError> = Some(SystemError::Number(28));
 
 /// What it tells of want of memory.
-pub(crate) const WANT: Option<SystemError> = Some(SystemError::OutOfMemory);
+pub const WANT: Option<SystemError> = Some(SystemError::OutOfMemory);
 
 /// None of a worker's three files.
-pub(crate) const SOUND: [Fails; 3] = [NEVER; 3];
+pub const SOUND: [Fails; 3] = [NEVER; 3];
 
 /// These of one of eight disks: of the plain, the even and the odd file of either of two workers, in this order, or of one of
 /// both slots.
-pub(crate) fn fails_of(disk: usize, fails: Fails) -> [Fails; 8] {
+pub fn fails_of(disk: usize, fails: Fails) -> [Fails; 8] {
     let mut all = [NEVER; 8];
     if let Some(one) = all.get_mut(disk) {
         *one = fails;
@@ -35,7 +35,7 @@ pub(crate) fn fails_of(disk: usize, fails: Fails) -> [Fails; 8] {
 /// A disk in memory, some of whose calls fail, and its system may tell why. It may have a device that gives back another last
 /// byte than it was given, or another byte from its first cut on.
 #[derive(Drop)]
-pub(crate) struct FlakyDisk {
+pub struct FlakyDisk {
     image: Vec<u8>,
     durable: Vec<u8>,
     calls: u64,
@@ -50,7 +50,7 @@ pub(crate) struct FlakyDisk {
 
 impl FlakyDisk {
     /// A disk with this image, of which nothing was made durable.
-    pub(crate) fn new(image: Vec<u8>, fails: Fails) -> Self {
+    pub fn new(image: Vec<u8>, fails: Fails) -> Self {
         let durable = Vec::new(*image.allocator());
         FlakyDisk {
             image,
@@ -67,7 +67,7 @@ impl FlakyDisk {
     }
 
     /// The same, whose device gives back another last byte.
-    pub(crate) fn spoiling(self) -> Self {
+    pub fn spoiling(self) -> Self {
         FlakyDisk {
             spoils: true,
             ..self
@@ -75,7 +75,7 @@ impl FlakyDisk {
     }
 
     /// The same, whose device gives back 0 at a place from its first cut on, with which the opening of a log ends.
-    pub(crate) fn changing(self, place: usize) -> Self {
+    pub fn changing(self, place: usize) -> Self {
         FlakyDisk {
             changes: Some(place),
             ..self
@@ -83,7 +83,7 @@ impl FlakyDisk {
     }
 
     /// The same, of whose failures the system tells this, if anything.
-    pub(crate) fn telling(self, error: Option<SystemError>) -> Self {
+    pub fn telling(self, error: Option<SystemError>) -> Self {
         let (refuses, number) = match error {
             Some(SystemError::OutOfMemory) => (true, None),
             Some(SystemError::Number(number)) => (false, Some(number)),
@@ -97,17 +97,17 @@ impl FlakyDisk {
     }
 
     /// What a read gives.
-    pub(crate) fn image(&self) -> &[u8] {
+    pub fn image(&self) -> &[u8] {
         &self.image
     }
 
     /// What a loss of power leaves.
-    pub(crate) fn durable(&self) -> &[u8] {
+    pub fn durable(&self) -> &[u8] {
         &self.durable
     }
 
     /// How many bytes its reads have asked for.
-    pub(crate) fn bytes_read(&self) -> u64 {
+    pub fn bytes_read(&self) -> u64 {
         self.bytes_read
     }
 

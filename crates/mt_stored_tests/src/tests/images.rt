@@ -9,13 +9,13 @@ use mt_rows::Tenants;
 use mt_store_logs::{NoWatch, closed_logs, recover_store};
 
 /// A client's key: the client, and the number of the put.
-pub(crate) fn key_of(client: u8, number: u16) -> [u8; 3] {
+pub fn key_of(client: u8, number: u16) -> [u8; 3] {
     let [high, low] = number.to_be_bytes();
     [client, high, low]
 }
 
 /// Tenant 7, which may have 200,000 pairs.
-pub(crate) fn tenant_7(rt: &impl Abort, alloc: Global) -> Tenants
+pub fn tenant_7(rt: &impl Abort, alloc: Global) -> Tenants
     ensures { HaveNoPairs result }
 {
     let mut tenants = Tenants::new(alloc);
@@ -25,7 +25,7 @@ pub(crate) fn tenant_7(rt: &impl Abort, alloc: Global) -> Tenants
 
 /// The files of a worker's log with these images: the plain one, the even and the odd one. Some calls of each fail, of which the
 /// system tells this, if anything.
-pub(crate) fn files_with(
+pub fn files_with(
     images: FileImages,
     fails: [Fails; 3],
     error: Option<SystemError>,
@@ -39,7 +39,7 @@ pub(crate) fn files_with(
 }
 
 /// A plain file with this image, and two files without a byte.
-pub(crate) fn plain_image(alloc: Global, plain: Vec<u8>) -> FileImages {
+pub fn plain_image(alloc: Global, plain: Vec<u8>) -> FileImages {
     FileImages {
         plain,
         even: Vec::new(alloc),
@@ -49,7 +49,7 @@ pub(crate) fn plain_image(alloc: Global, plain: Vec<u8>) -> FileImages {
 
 /// Which bytes of a disk are meant.
 #[derive(Clone, Copy, Debug, PartialEq, Eq)]
-pub(crate) enum Left {
+pub enum Left {
     /// What a read gives.
     All,
     /// What a loss of power leaves.
@@ -57,7 +57,7 @@ pub(crate) enum Left {
 }
 
 /// These bytes of a disk.
-pub(crate) fn left_of(disk: &FlakyDisk, left: Left) -> &[u8] {
+pub fn left_of(disk: &FlakyDisk, left: Left) -> &[u8] {
     match left {
         Left::All => disk.image(),
         Left::Durable => disk.durable(),
@@ -84,12 +84,12 @@ fn files_left(alloc: Global, log: &StoreLog<FlakyDisk>, left: Left) -> Result<Fi
 }
 
 /// What reads of a log's files give.
-pub(crate) fn image_of(alloc: Global, log: &StoreLog<FlakyDisk>) -> Result<FileImages, Refusal> {
+pub fn image_of(alloc: Global, log: &StoreLog<FlakyDisk>) -> Result<FileImages, Refusal> {
     files_left(alloc, log, Left::All)
 }
 
 /// These bytes of the files of logs.
-pub(crate) fn logs_left(
+pub fn logs_left(
     rt: &impl Abort,
     alloc: Global,
     logs: &[StoreLog<FlakyDisk>],
@@ -104,7 +104,7 @@ pub(crate) fn logs_left(
 }
 
 /// A disk in memory with this image.
-pub(crate) fn disk_with(alloc: Global, image: &[u8]) -> Result<MemDisk, AllocError> {
+pub fn disk_with(alloc: Global, image: &[u8]) -> Result<MemDisk, AllocError> {
     MemDisk::with_image(alloc, image.to_vec(alloc)?, Vec::new(alloc), None)
 }
 
@@ -182,7 +182,7 @@ fn are_pairs(pairs: &[TenantPair], counts: &[u16]) -> bool {
 }
 
 /// The pairs that a recovery from these images gives.
-pub(crate) fn pairs_left(
+pub fn pairs_left(
     alloc: Global,
     images: &[FileImages],
     slots: &mut StoreSlots<MemDisk>,
@@ -197,7 +197,7 @@ pub(crate) fn pairs_left(
 
 /// Whether each log has exactly so many first keys of its worker's client, each once and in order, and a recovery gives the
 /// pairs of all of them.
-pub(crate) fn hold_all(
+pub fn hold_all(
     alloc: Global,
     images: &[FileImages],
     tenants: &Tenants,
@@ -215,7 +215,7 @@ pub(crate) fn hold_all(
 }
 
 /// Whether a recovery with these slots gives the pairs of all clients, though older logs are given up.
-pub(crate) fn hold_all_with(
+pub fn hold_all_with(
     alloc: Global,
     images: &[FileImages],
     slots: &mut StoreSlots<MemDisk>,

@@ -6,7 +6,7 @@ use mt_digests::{FileDigest, agrees, clear_digest, digest_of, write_digest};
 /// The digests of two workers' logs and of both slots: a disk for each plain, even and odd file, in this order, and then for
 /// each slot.
 #[derive(Drop)]
-pub(crate) struct KeptDigests<'a, R: Wait> {
+pub struct KeptDigests<'a, R: Wait> {
     pub rt: &'a R,
     pub alloc: Global,
     pub logs: &'a [Mutex<StoreLog<FlakyDisk>>],
@@ -14,7 +14,7 @@ pub(crate) struct KeptDigests<'a, R: Wait> {
 }
 
 /// Disks without a digest, of which some calls fail.
-pub(crate) fn digest_disks(rt: &impl Abort, alloc: Global, fails: [Fails; 8]) -> Vec<FlakyDisk> {
+pub fn digest_disks(rt: &impl Abort, alloc: Global, fails: [Fails; 8]) -> Vec<FlakyDisk> {
     let mut disks = Vec::new(alloc);
     for one in fails {
         let disk = FlakyDisk::new(Vec::new(alloc), one);
@@ -107,7 +107,7 @@ impl<R: Wait> Digests for KeptDigests<'_, R> {
 }
 
 /// Whether a file with this image agrees with its digest's disk.
-pub(crate) fn does_agree(
+pub fn does_agree(
     rt: &impl Abort,
     alloc: Global,
     image: &[u8],

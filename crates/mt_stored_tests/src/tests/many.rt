@@ -10,7 +10,7 @@ const PUTS: u16 = 50_050;
 const GOES_ON: u16 = 50_300;
 
 /// Settles once; what the logs' files hold then.
-pub(crate) fn settled<R: Wait + Clock + Log + Abort>(
+pub fn settled<R: Wait + Clock + Log + Abort>(
     rt: &R,
     alloc: Global,
     state: State,

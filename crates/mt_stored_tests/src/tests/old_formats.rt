@@ -6,7 +6,7 @@ use super::{stories, *};
 
 /// Log 0 of 1: a batch from 0 to 6, with a put of tenant 7, key 6b, column 76, at step 5; and one from 6 to 9, with a put of
 /// key 6c, column 77, at step 8.
-pub(crate) const LOG: [u8; 101] = [
+pub const LOG: [u8; 101] = [
     0x4d, 0x54, 0x4c, 0x4f, 0x47, 1, 0, 1, 1, 0, 0, 0, 0x29, 0, 0, 0, 0, 0, 0, 0, 0, 0, 0, 0, 0, 0,
     0, 0, 0, 6, 0, 0, 0, 1, 0, 0, 0, 0, 0, 0, 0, 5, 0, 0, 0, 7, 0, 1, 0x6b, 1, 1, 0, 1, 0x76, 1, 0,
     0, 0, 0x29, 0, 0, 0, 0, 0, 0, 0, 0, 6, 0, 0, 0, 0, 0, 0, 0, 9, 0, 0, 0, 1, 0, 0, 0, 0, 0, 0, 0,

@@ -17,7 +17,7 @@ const TENANTS: [TenantQuota; 1] = [TenantQuota {
 
 /// A store that is served: its book, its logs, and the turns that they have.
 #[derive(Drop)]
-pub(crate) struct Served<'a, L: Ledger, J: Naming, R> {
+pub struct Served<'a, L: Ledger, J: Naming, R> {
     pub rt: &'a R,
     pub alloc: Global,
     pub book: BookLock<L, J>,
@@ -27,7 +27,7 @@ pub(crate) struct Served<'a, L: Ledger, J: Naming, R> {
 }
 
 /// What answers a worker's session.
-pub(crate) type WorkerCaller<'a, L, J, R> = DeskCaller<
+pub type WorkerCaller<'a, L, J, R> = DeskCaller<
     'a,
     L,
     R,
@@ -37,10 +37,10 @@ pub(crate) type WorkerCaller<'a, L, J, R> = DeskCaller<
 >;
 
 /// A worker that serves connections.
-pub(crate) type StoreWorker<'a, L, J, R> = SessionWorker<'a, L, J, R, FlakyDisk>;
+pub type StoreWorker<'a, L, J, R> = SessionWorker<'a, L, J, R, FlakyDisk>;
 
 /// What makes a store's turns.
-pub(crate) type StoreTurner<'a, L, J, R, G> = Turner<
+pub type StoreTurner<'a, L, J, R, G> = Turner<
     'a,
     L,
     R,
@@ -49,10 +49,9 @@ pub(crate) type StoreTurner<'a, L, J, R, G> = Turner<
     G,
 >;
 
-/// A worker's session of a store, which makes the turns that its settled answers make due, and how many keys its client has
-/// put.
+/// A worker's session of a store, which makes the turns that its settled answers make due, and how many keys its client has put.
 #[derive(Drop)]
-pub(crate) struct Session<'a, L: Ledger, J: Naming, R: Wait + Clock> {
+pub struct Session<'a, L: Ledger, J: Naming, R: Wait + Clock> {
     pub caller: WorkerCaller<'a, L, J, R>,
     pub served: &'a Served<'a, L, J, R>,
     pub alloc: Global,
@@ -62,13 +61,7 @@ pub(crate) struct Session<'a, L: Ledger, J: Naming, R: Wait + Clock> {
 
 impl<'a, L: Ledger, J: Naming, R: Wait + Clock + Log + Abort> Served<'a, L, J, R> {
     /// A store under these names. A turn is due after each so many settled answers.
-    pub(crate) fn new(
-        rt: &'a R,
-        alloc: Global,
-        names: Names,
-        store: Store<FlakyDisk>,
-        every: u32,
-    ) -> Self
+    pub fn new(rt: &'a R, alloc: Global, names: Names, store: Store<FlakyDisk>, every: u32) -> Self
         requires names { AreNames L.name L.parts J.name J.parts J.book names store.source.state }
         requires unasked { IsUnasked store.source.state }
     {
@@ -87,7 +80,7 @@ impl<'a, L: Ledger, J: Naming, R: Wait + Clock + Log + Abort> Served<'a, L, J, R
     }
 
     /// Its logs, with a clerk of their own.
-    pub(crate) fn shared_logs(&self) -> SharedLogs<'_, L, J, R, FlakyDisk> {
+    pub fn shared_logs(&self) -> SharedLogs<'_, L, J, R, FlakyDisk> {
         let clerk = open_clerk(self.rt, &self.book).expect(self.rt, "a clerk");
         SharedLogs::new(self.rt, clerk, &self.logs)
     }
@@ -102,7 +95,7 @@ impl<'a, L: Ledger, J: Naming, R: Wait + Clock + Log + Abort> Served<'a, L, J, R
     }
 
     /// A worker with buffers of its own.
-    pub(crate) fn worker(&self, worker: u8) -> StoreWorker<'_, L, J, R> {
+    pub fn worker(&self, worker: u8) -> StoreWorker<'_, L, J, R> {
         SessionWorker {
             rt: self.rt,
             caller: self.caller(worker),
@@ -111,13 +104,13 @@ impl<'a, L: Ledger, J: Naming, R: Wait + Clock + Log + Abort> Served<'a, L, J, R
     }
 
     /// What makes its turns, the first one to the generation that its logs tell, and asks for digests.
-    pub(crate) fn turner<G: Digests + Drop>(&self, digests: G) -> StoreTurner<'_, L, J, R, G> {
+    pub fn turner<G: Digests + Drop>(&self, digests: G) -> StoreTurner<'_, L, J, R, G> {
         let next = next_generation(self.rt, &self.shared_logs()).expect(self.rt, "logs");
         self.turner_to(next, digests)
     }
 
     /// What makes its turns, the first one to this generation.
-    pub(crate) fn turner_to<G: Digests + Drop>(
+    pub fn turner_to<G: Digests + Drop>(
         &self,
         next: u64,
         digests: G,
@@ -134,7 +127,7 @@ impl<'a, L: Ledger, J: Naming, R: Wait + Clock + Log + Abort> Served<'a, L, J, R
     }
 
     /// A session of a worker.
-    pub(crate) fn session(&self, worker: u8) -> Session<'_, L, J, R> {
+    pub fn session(&self, worker: u8) -> Session<'_, L, J, R> {
         let mut session = Session {
             caller: self.caller(worker),
             served: self,
@@ -147,14 +140,14 @@ impl<'a, L: Ledger, J: Naming, R: Wait + Clock + Log + Abort> Served<'a, L, J, R
     }
 
     /// What is left of it: its state, its logs, and when turns are due.
-    pub(crate) fn into_parts(self) -> (State, Vec<StoreLog<FlakyDisk>>, Checks<FlakyDisk>) {
+    pub fn into_parts(self) -> (State, Vec<StoreLog<FlakyDisk>>, Checks<FlakyDisk>) {
         let logs = unlocked_logs(self.alloc, self.logs).expect(self.rt, "memory");
         let state = self.book.into_inner().into_book().into_state();
         (state, logs, self.turns.into_checks())
     }
 
     /// Its end: its logs and slots are joined with its state again, and settled for the last time.
-    pub(crate) fn joined(self) -> Store<FlakyDisk> {
+    pub fn joined(self) -> Store<FlakyDisk> {
         let (rt, alloc) = (self.rt, self.alloc);
         let (state, logs, checks) = self.into_parts();
         let mut store = Store::joined(state, logs, checks.into_slots()).expect(rt, "a store");
@@ -163,7 +156,7 @@ impl<'a, L: Ledger, J: Naming, R: Wait + Clock + Log + Abort> Served<'a, L, J, R
     }
 
     /// The least step up to which one of its logs goes, if all are open.
-    pub(crate) fn least_mark(&self) -> Option<u64> {
+    pub fn least_mark(&self) -> Option<u64> {
         let mut least = u64::MAX;
         for log in &self.logs {
             let mark = log.lock(self.rt).mark();
@@ -174,7 +167,7 @@ impl<'a, L: Ledger, J: Naming, R: Wait + Clock + Log + Abort> Served<'a, L, J, R
 }
 
 /// A put of a column of one byte.
-pub(crate) fn put_of(alloc: Global, key: &[u8], value: u8) -> Result<Command, AllocError> {
+pub fn put_of(alloc: Global, key: &[u8], value: u8) -> Result<Command, AllocError> {
     let key = Key::new(Vec::from_slice(alloc, key)?);
     let mut columns = Vec::new(alloc);
     columns.push((0, Column::from_slice(alloc, &[value])?))?;
@@ -183,7 +176,7 @@ pub(crate) fn put_of(alloc: Global, key: &[u8], value: u8) -> Result<Command, Al
 }
 
 /// A get of all columns.
-pub(crate) fn get_of(alloc: Global, key: &[u8]) -> Result<Command, AllocError> {
+pub fn get_of(alloc: Global, key: &[u8]) -> Result<Command, AllocError> {
     let key = Key::new(Vec::from_slice(alloc, key)?);
     let columns = ColumnIndexes::new(Vec::new(alloc));
     Ok(Command::Get { key, columns })
@@ -199,14 +192,14 @@ impl<L: Ledger, J: Naming, R: Wait + Clock + Log + Abort> Session<'_, L, J, R> {
     }
 
     /// Puts so many keys; whether each was told to be new. Then the baton is given back, as it is when replies are written.
-    pub(crate) fn puts(&mut self, count: u16) -> bool {
+    pub fn puts(&mut self, count: u16) -> bool {
         let all_new = self.puts_on(count);
         self.caller.runner().give();
         all_new
     }
 
     /// The same, in the midst of a batch.
-    pub(crate) fn puts_on(&mut self, count: u16) -> bool {
+    pub fn puts_on(&mut self, count: u16) -> bool {
         for _ in 0..count {
             let put = put_of(self.alloc, &key_of(self.worker, self.count), 1);
             if !matches!(self.asked(put), Some(Reply::New)) {
@@ -218,7 +211,7 @@ impl<L: Ledger, J: Naming, R: Wait + Clock + Log + Abort> Session<'_, L, J, R> {
     }
 
     /// Gets its first key so many times; whether it was found each time.
-    pub(crate) fn gets(&mut self, count: u16) -> bool {
+    pub fn gets(&mut self, count: u16) -> bool {
         for _ in 0..count {
             let get = get_of(self.alloc, &key_of(self.worker, 0));
             if !matches!(self.asked(get), Some(Reply::Found(_))) {
@@ -231,7 +224,7 @@ impl<L: Ledger, J: Naming, R: Wait + Clock + Log + Abort> Session<'_, L, J, R> {
 
     /// Whether an act of the client comes out as it should: it `puts`, `gets` or `settles`, so many times or once. Or it settles
     /// once, and is told that a device `fails`, or that memory is `refused`.
-    pub(crate) fn does(&mut self, act: &str) -> bool {
+    pub fn does(&mut self, act: &str) -> bool {
         let (word, count) = act.split_once(' ').unwrap_or((act, "1"));
         let count = count.parse().unwrap_or(0);
         match word {
@@ -260,17 +253,17 @@ impl<L: Ledger, J: Naming, R: Wait + Clock + Log + Abort> Session<'_, L, J, R> {
     }
 
     /// Goes on as if so many keys had been put.
-    pub(crate) fn skip(&mut self, count: u16) {
+    pub fn skip(&mut self, count: u16) {
         self.count = count;
     }
 
     /// Settles, and leaves a turn that is due then to others.
-    pub(crate) fn settle_alone(&mut self) -> Result<u64, Refusal> {
+    pub fn settle_alone(&mut self) -> Result<u64, Refusal> {
         self.caller.settle()
     }
 
     /// Settles. Then the turn is made that is due.
-    pub(crate) fn settle(&mut self) -> Result<u64, Refusal> {
+    pub fn settle(&mut self) -> Result<u64, Refusal> {
         let told = self.caller.settle();
         self.served.make_turn();
         told

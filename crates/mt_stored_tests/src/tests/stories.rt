@@ -7,7 +7,7 @@ use super::*;
 
 /// A new store with these slots. Some calls of its files fail: of each worker's plain one, of the even and of the odd one. The
 /// system tells this of them, if anything.
-pub(crate) fn new_store(
+pub fn new_store(
     rt: &impl Abort,
     alloc: Global,
     fails: &[[Fails; 3]],
@@ -30,7 +30,7 @@ pub(crate) fn new_store(
 }
 
 /// A new store of two workers, of whose eight disks these calls fail. Of the logs' failures the system tells this, if anything.
-pub(crate) fn store_of_two(
+pub fn store_of_two(
     rt: &impl Abort,
     alloc: Global,
     fails: [Fails; 8],
@@ -44,7 +44,7 @@ pub(crate) fn store_of_two(
 }
 
 /// The store that files and slots hold.
-pub(crate) fn recovered(
+pub fn recovered(
     rt: &impl Abort,
     alloc: Global,
     images: Vec<FileImages>,
@@ -65,12 +65,12 @@ pub(crate) fn recovered(
 }
 
 /// Slots on disks without a byte.
-pub(crate) fn bare_slots(alloc: Global) -> StoreSlots<FlakyDisk> {
+pub fn bare_slots(alloc: Global) -> StoreSlots<FlakyDisk> {
     slots_with(alloc, [NEVER; 2])
 }
 
 /// Slots whose files have these images.
-pub(crate) fn slots_of(
+pub fn slots_of(
     alloc: Global,
     [first, second]: [&[u8]; 2],
 ) -> Result<StoreSlots<FlakyDisk>, AllocError> {
@@ -80,7 +80,7 @@ pub(crate) fn slots_of(
 }
 
 /// Slots on disks without a byte, if some calls of the disks fail.
-pub(crate) fn slots_with(alloc: Global, fails: [Fails; 2]) -> StoreSlots<FlakyDisk> {
+pub fn slots_with(alloc: Global, fails: [Fails; 2]) -> StoreSlots<FlakyDisk> {
     let [first, second] = fails;
     let disk = |fails: Fails| FlakyDisk::new(Vec::new(alloc), fails);
     StoreSlots::found(disk(first), disk(second))
@@ -186,7 +186,7 @@ impl<L: Ledger, J: Naming, R: Wait + Clock + Log + Abort> Served<'_, L, J, R> {
 
 /// What clients do, one act after the other.
 #[derive(Clone, Copy)]
-pub(crate) struct Acts<'a>(pub &'a str);
+pub struct Acts<'a>(pub &'a str);
 
 // A store over such disks, and a story.
 fn run<R: Wait + Clock + Log + Abort>(

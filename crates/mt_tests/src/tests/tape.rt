@@ -35,8 +35,7 @@ fn push_two(rt: &impl Abort, alloc: Global, tape: &mut Tape) {
     assert_eq!(rt; (tape.len(), tape.reserved()), (2, 0));
 }
 
-// The tape hands out up to this step, where there is room: how many writes are left, its floor, and how
-// many were handed out.
+// The tape hands out up to this step, where there is room: how many writes are left, its floor, and how many were handed out.
 fn hands_out(
     rt: &impl Abort,
     tape: &mut Tape,
