@@ -4,7 +4,6 @@ mod counters;
 mod held;
 mod lies;
 mod threads;
-mod tidied;
 mod told;
 
 use self::asked::{Ask, command_of, new_store};

@@ -1,15 +1,12 @@
 mod books;
 mod frames;
 mod framing;
-mod hexadecimal;
 mod pieces;
 mod rows;
 mod sessions;
-mod turns;
 mod ways;
 
-use self::framing::{framed, front_len};
-use self::hexadecimal::{bytes_of, many};
+use self::framing::{bytes_of, framed, front_len, many};
 use self::pieces::{ALL, streams};
 use self::rows::row_of;
 use self::ways::{End, TestServer};

@@ -1,10 +1,7 @@
-mod asked;
 mod at_once;
-mod batons;
 mod checks;
 mod disks;
 mod images;
-mod kept_digests;
 mod many;
 mod old_formats;
 mod power;
@@ -13,13 +10,12 @@ mod sessions;
 mod stories;
 mod turns;
 
-use self::asked::put_all;
 use self::checks::expect_recovered;
 use self::disks::{FULL, Fails, FlakyDisk, NEVER, SOUND, WANT, fails_of};
 use self::images::{
     Left, disk_with, files_with, image_of, key_of, left_of, logs_left, plain_image, tenant_7,
 };
-use self::many::settled;
+use self::many::{put_all, settled};
 use self::sessions::{Served, Session};
 use self::stories::{bare_slots, new_store, recovered, slots_of, store_of_two};
 use log::sink::Locked;

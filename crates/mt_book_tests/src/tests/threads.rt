@@ -1,9 +1,9 @@
-//! Puts by one thread and by four; and what is done with a new book.
+//! Puts by one thread and by four; and what is done with a new book. What the tape holds once four threads have put 10,000 times.
 
 ghost use Rattle.std.specs.Prelude.{◌≡◌};
 ghost use Rattle.mt_book.specs.{Keeping.IsUnasked, Names.AreNames};
 
-use super::{held, tidied, told, *};
+use super::{held, told, *};
 use mt_book::{Clerk, Kept, Names, gather};
 
 /// A pass and its clerk.
@@ -151,7 +151,7 @@ fn play<L: Ledger + Send + Sync, J: Naming + Send + Sync, R: Threads + Wait + Cl
     let book = BookLock::new(Kept::<L, J>::new(alloc, names, state));
     play_locked(rt, alloc, &book, case);
     if let Case::Tidied = case {
-        tidied::expect_none_held(rt, alloc, book.into_inner().into_book());
+        expect_none_held(rt, alloc, book.into_inner().into_book());
     }
 }
 
@@ -169,7 +169,7 @@ fn play_locked<
             let callers = open_all(rt, alloc, book, &[0, 0, 0, 0]);
             gather_all(rt, alloc, book, put_by_four(rt, alloc, callers, 250));
         }
-        Case::Tidied => tidied::put_on(rt, alloc, book),
+        Case::Tidied => put_on(rt, alloc, book),
         Case::ToldAlone | Case::ToldLocked => told::tell_locked(rt, alloc, book),
     }
 }
@@ -194,4 +194,35 @@ fn four_threads_make_a_thousand_answers(rt: HostRuntime) {
 #[test]
 fn a_look_shows_as_many_steps_as_the_answers_tell(rt: HostRuntime) {
     expect(&rt, rt.alloc(), Case::ManySteps);
+}
+
+// How many puts each of the threads makes.
+const PUTS: u32 = 2_500;
+
+// So many puts of one thread give up at least three writes each of what four threads may have left, whoever waited.
+const MORE: u32 = 3_400;
+
+// Four threads put, then one alone.
+pub(crate) fn put_on<
+    L: Ledger + Send + Sync,
+    J: Naming + Send + Sync,
+    R: Threads + Wait + Clock + Abort + Sync,
+>(rt: &R, alloc: Global, book: &BookLock<L, J>) {
+    let callers = open_all(rt, alloc, book, &[0, 0, 0, 0]);
+    let _ = put_by_four(rt, alloc, callers, PUTS);
+    let caller = open_pass(rt, book, 0).expect(rt, "a pass");
+    assert_eq!(rt; put_all(rt, alloc, caller, MORE).1, MORE);
+}
+
+// Nobody is in a call now. A tidying that may give up 64 writes gives up none, so the tape holds none.
+pub(crate) fn expect_none_held<L: Ledger>(rt: &impl Abort, alloc: Global, book: Book<L>) {
+    let mut book = book;
+    let mut displaced = Displaced::with_room(alloc, 64).expect(rt, "memory");
+    book.tidy(&mut displaced);
+    assert_eq!(rt; displaced.writes.len(), 0);
+}
+
+#[test]
+fn the_tape_holds_no_write_that_nobody_needs(rt: HostRuntime) {
+    expect(&rt, rt.alloc(), Case::Tidied);
 }

@@ -1,11 +1,8 @@
 //! Two checkpoints written one over the other, stopped or failing at each call of their disk; and each of some
 //! torn images that a crash may then leave, read.
 
-use super::slots::{Told, VECTOR, read_as, slot_with, told_of, write};
-use mt_checkpoint::read_valid;
-use mt_disk::MemDisk;
-use std::alloc::{AllocError, Global};
-use std::test::Fail;
+use super::slots::write;
+use super::*;
 
 // The second checkpoint, whole.
 const SECOND: [u8; 44] = [

@@ -1,12 +1,8 @@
 //! Walks over plain maps of several sizes, page by page.
 
+use super::*;
 use mt_pages::PageWalk;
-use mt_rows::key::USER_KEY_BYTES;
-use mt_rows::{
-    Column, Command, Key, PairList, PlainMap, Reply, Row, StampedRow, TenantPair, Tenants,
-};
-use std::alloc::{AllocError, Global};
-use std::test::Fail;
+use mt_rows::{Command, PairList, PlainMap, Reply, Tenants};
 
 // A map of so many keys of two bytes, which rise, each with an empty column.
 fn map_of(alloc: Global, count: u16) -> Result<PlainMap, AllocError> {

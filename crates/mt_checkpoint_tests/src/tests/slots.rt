@@ -3,11 +3,9 @@
 ghost use Rattle.std.specs.{Prelude.{◌↔◌, IsTrue}, List.All};
 ghost use Rattle.mt_rows.specs.Commands.{IsKey};
 
-use mt_checkpoint::{Checkpoint, ReadFault, Writer, create_slot, read_valid};
-use mt_disk::{Disk, MemDisk};
-use mt_rows::key::USER_KEY_BYTES;
-use mt_rows::{Column, Key, Row, StampedRow, TenantPair};
-use std::alloc::{AllocError, Global};
+use super::*;
+use mt_checkpoint::{Checkpoint, ReadFault, Writer, create_slot};
+use mt_disk::Disk;
 
 /// A whole checkpoint: from step 6 up to step 9, with tenant 7's key 6b, column 76, stamp 5, alone.
 pub const VECTOR: [u8; 44] = [

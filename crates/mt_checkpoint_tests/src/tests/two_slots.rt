@@ -1,11 +1,9 @@
 //! The two slots of a store: which one a checkpoint is written in, what it owes, and what both are read as after a failure.
 
-use super::slots::{Told, keys_fit, pairs_of, told_of};
+use super::slots::{keys_fit, pairs_of};
+use super::*;
 use mt_checkpoint::SeenCheckpoint;
-use mt_disk::MemDisk;
 use mt_slots::{FaultCause, Slot, SlotFault, StoreSlots};
-use std::alloc::{AllocError, Global};
-use std::test::Fail;
 
 // Two slots, a call of one of whose disks fails, 0 where none does; and why they were not made.
 fn slots_with(

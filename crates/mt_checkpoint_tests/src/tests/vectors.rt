@@ -1,9 +1,8 @@
 //! The bytes of docs/FORMATS.md, written and read, each of their beginnings, and each byte changed.
 
-use super::slots::{OLD_VECTOR, Told, VECTOR, read_as, slot_with, stamp_in, written};
+use super::slots::{OLD_VECTOR, stamp_in, written};
+use super::*;
 use mt_checkpoint::checkpoint::MAX_STEP;
-use std::alloc::{AllocError, Global};
-use std::test::Fail;
 
 #[test]
 fn a_checkpoint_is_written_as_its_bytes(rt: HostRuntime) -> Result<(), Fail> {

@@ -13,12 +13,9 @@ ghost use Rattle.std.specs.{Prelude.{◌≡◌}, List.All};
 ghost use Rattle.mt_state.specs.Begins.{HaveNoPairs};
 ghost use Rattle.mt_lives.specs.Steps.{IsServedBy};
 
-use mt_lives::{CrashImages, StoreEvent};
-use mt_rows::{Column, ColumnIndexes, Command, Key, NamedColumns, Tenants};
+use super::*;
+use mt_rows::{Column, ColumnIndexes, Command, Key, NamedColumns};
 use mt_runs::Event;
-use mt_store_logs::FileImages;
-use std::alloc::Global;
-use std::process::Abort;
 
 /// As many steps as any operation here needs; a step behind the last one is none.
 const ENOUGH: u64 = 9;

@@ -1,11 +1,8 @@
 //! Lists of events stopped at every call of a disk, with each call failing once, with two calls failing, and with
 //! a growth refused.
 
-use super::notes::{Noted, recovers, settles_as, tells};
-use super::runs::{AMPLE, DiskOf, Fate, fates_of, run};
-use std::alloc::Global;
-use std::process::Abort;
-use std::test::Fail;
+use super::runs::settles_as;
+use super::*;
 
 // Two workers and two crashes, the second followed by another; the last Settle stands behind all.
 const CRASHES: &str =

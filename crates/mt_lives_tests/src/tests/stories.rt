@@ -2,13 +2,9 @@
 
 ghost use Rattle.mt_state.specs.Begins.{HaveNoPairs};
 
-use super::asked::{no_tenants, one_tenant, rows_of};
-use super::notes::Noted;
-use super::runs::{AMPLE, DiskOf, Fate, calls_in, run, run_store};
-use mt_rows::Tenants;
-use std::alloc::Global;
-use std::process::Abort;
-use std::test::Fail;
+use super::asked::no_tenants;
+use super::runs::calls_in;
+use super::*;
 
 // Two workers; a Settle between whose turns a change falls; a crash with an operation in mid-step and a change that is
 // in no log; a Settle that a crash ends; a name that is free again in the next life; and a second crash.

@@ -1,11 +1,7 @@
 //! Turns in lists of events stopped at every call of a disk, and with each call failing once.
 
-use super::asked::{one_tenant, rows_of};
-use super::notes::{Noted, recovers, tells};
-use super::runs::{AMPLE, Fate, Ran, fates_of, run_store, standing};
-use std::alloc::Global;
-use std::process::Abort;
-use std::test::Fail;
+use super::runs::{Ran, standing};
+use super::*;
 
 // Two workers. Two turns, the first with a put in its walk; a third one with a crash in it; a turn of the next life; a
 // crash followed by another; and two turns more.

@@ -1,4 +1,5 @@
 //! Readers that cut, writers that take little, and both as they fail and are interrupted.
+//! A client that sends a request only when it has the reply to the one before it.
 
 use super::*;
 use std::io::{Read, Write};
@@ -110,4 +111,88 @@ pub fn streams(
         calls: Calls::new(writes),
     };
     (reader, writer)
+}
+
+/// A reader that gives a frame only once the reply to the one before it is written whole, and its end only
+/// behind the last reply. Asked before that it fails, where a client would wait without end.
+#[derive(Drop)]
+pub struct Waiting<'a> {
+    // what is asked, and is not yet given
+    rest: &'a [u8],
+    // the replies to that
+    replies: &'a [u8],
+    // how many bytes are left of the frame that is being given
+    left: usize,
+    // how many bytes have to be written before the next one
+    due: usize,
+    // at most so many bytes in a read
+    most: usize,
+    written: &'a Cell<usize>,
+}
+
+impl<'a> Waiting<'a> {
+    /// A reader of frames, of which each has one of these replies, beside a writer that counts.
+    pub fn new(asked: &'a [u8], replies: &'a [u8], most: usize, written: &'a Cell<usize>) -> Self {
+        Waiting {
+            rest: asked,
+            replies,
+            left: 0,
+            due: 0,
+            most,
+            written,
+        }
+    }
+
+    // Goes on to the next frame; its reply is due then.
+    fn next_frame(&mut self) {
+        self.left = front_len(self.rest);
+        let reply = front_len(self.replies);
+        self.replies = &self.replies[reply..];
+        self.due = self.due.saturating_add(reply);
+    }
+}
+
+impl Read for Waiting<'_> {
+    ghost use Rattle.std.specs.Prelude.{None};
+
+    ghost remaining = { λ _. None };
+
+    fn read(&mut self, room: &mut [u8]) -> io::Result<usize> {
+        if self.left == 0 {
+            if self.written.get() < self.due {
+                return Err(io::Error::from(ErrorKind::TimedOut));
+            }
+            self.next_frame();
+        }
+        let most = self.most.max(1).min(room.len());
+        let count = most.min(self.left).min(self.rest.len());
+        let (front, rest) = self.rest.split_at(count);
+        room[..count].copy_from_slice(front);
+        self.rest = rest;
+        self.left -= count;
+        Ok(count)
+    }
+}
+
+/// A writer whose bytes are counted.
+#[derive(Drop)]
+pub struct Counted<'a, W> {
+    /// What is written to.
+    pub stream: W,
+    /// How many bytes were written.
+    pub count: &'a Cell<usize>,
+}
+
+impl<W: Write> Write for Counted<'_, W> {
+    ghost contents = { λ c. W.contents c.stream };
+
+    fn write(&mut self, text: &[u8]) -> io::Result<usize> {
+        let count = self.stream.write(text)?;
+        self.count.set(self.count.get().saturating_add(count));
+        Ok(count)
+    }
+
+    fn flush(&mut self) -> io::Result<()> {
+        self.stream.flush()
+    }
 }

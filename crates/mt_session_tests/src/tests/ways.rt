@@ -1,8 +1,7 @@
 //! Sessions over the streams of this crate, in each way, and whether they are told as rows say.
 
-use super::pieces::Written;
+use super::pieces::{Counted, Waiting, Written};
 use super::rows::Row;
-use super::turns::{Counted, Waiting};
 use super::*;
 use mt_session::Ended;
 use mt_streams::{Sink, Source};

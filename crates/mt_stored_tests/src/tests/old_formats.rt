@@ -1,6 +1,6 @@
 //! A store whose log and checkpoint are of format 1: it is recovered, goes on, and is recovered again.
 
-use super::asked::asked;
+use super::many::asked;
 use super::sessions::get_of;
 use super::{stories, *};
 

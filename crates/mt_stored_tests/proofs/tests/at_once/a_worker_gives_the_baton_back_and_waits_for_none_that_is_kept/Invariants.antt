@@ -1,4 +1,4 @@
-use Rattle.mt_stored_tests.proofs.tests.batons.a_worker_gives_the_baton_back_and_waits_for_none_that_is_kept.Given as goal
+use Rattle.mt_stored_tests.proofs.tests.at_once.a_worker_gives_the_baton_back_and_waits_for_none_that_is_kept.Given as goal
 
 -- the ledgers and the history are those that the names are made for
 abbrev pub ghosts-run-L-Ledger : goal.ghosts-run-L-Ledger
