@@ -1,4 +1,3 @@
-mod crashes;
 mod pages;
 mod slots;
 mod two_slots;

@@ -1,8 +1,6 @@
 mod asked;
 mod pairs;
-mod recovered;
 mod restored;
-mod reused;
 mod runs;
 mod story;
 

@@ -1,4 +1,3 @@
-mod calls;
 mod chains;
 mod changes;
 mod copies;
@@ -10,7 +9,6 @@ mod files;
 mod generations;
 mod logs;
 mod openings;
-mod refusals;
 mod slots;
 mod stores;
 mod vectors;

@@ -1,12 +1,11 @@
 mod books;
 mod frames;
-mod framing;
 mod pieces;
 mod rows;
 mod sessions;
 mod ways;
 
-use self::framing::{bytes_of, framed, front_len, many};
+use self::frames::{bytes_of, framed, front_len, many};
 use self::pieces::{ALL, streams};
 use self::rows::row_of;
 use self::ways::{End, TestServer};

@@ -1,6 +1,6 @@
 use Rattle.std.{proofs.{Common.{rules, subst}, lemmas.List.take_all, lemmas.List.Elements.All-more}, specs.List.All}
 use Rattle.mt_rows.specs.TenantPairs.{IsTenantPair}
-use Rattle.mt_core_tests.proofs.tests.recovered.are_within.Goals as goal
+use Rattle.mt_core_tests.proofs.tests.restored.are_within.Goals as goal
 
 pub loop-pair-preserved : goal.loop-pair-preserved
 loop-pair-preserved c =
