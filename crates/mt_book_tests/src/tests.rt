@@ -1,5 +1,4 @@
 mod asked;
-mod batons;
 mod counters;
 mod held;
 mod lies;

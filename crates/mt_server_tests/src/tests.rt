@@ -1,6 +1,5 @@
 mod checkpoints;
 mod clients;
-mod digests;
 mod fake_folders;
 mod folders;
 mod servers;

@@ -5,7 +5,6 @@ mod images;
 mod many;
 mod old_formats;
 mod power;
-mod refusals;
 mod sessions;
 mod stories;
 mod turns;

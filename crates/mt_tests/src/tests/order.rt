@@ -1,7 +1,7 @@
 //! Orders of slots: their words, worked out by hand.
 
+use super::*;
 use mt_order::Order;
-use std::process::Abort;
 
 // Makes a slot live at a place, where both are there.
 fn insert(rt: &impl Abort, order: &mut Order, place: usize) {

@@ -1,12 +1,10 @@
 //! Commands as bytes to what they ask, and replies to how they are told: at every cut, and with a byte after each command.
 
+use super::*;
 use mt_resp::{
     Asked, COMMAND_BYTES, COMMAND_WORDS, Failure, Fault, Front, Shape, Told, decode, meaning_of,
     picked, write_told,
 };
-use mt_rows::{Column, ColumnIndexes, Refusal, Reply, Row, StampedRow};
-use std::alloc::{AllocError, Global};
-use std::process::Abort;
 
 // What is read, in short: words with commas between them, and how many bytes spell them.
 fn shown(alloc: Global, bytes: &[u8]) -> Result<String, AllocError> {

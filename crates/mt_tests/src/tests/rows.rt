@@ -1,13 +1,9 @@
 //! Rows, commands and tenants.
 
 use self::Asked::{Get, Put, PutIf, Remove, Scan};
-use mt_rows::{
-    Change, Column, ColumnIndexes, Command, Key, NamedColumns, PlainMap, Refusal, Reply, Row,
-    RowRoom, StampedRow, Tenants, merge, merge_in,
-};
-use std::alloc::{AllocError, Global};
+use super::*;
+use mt_rows::{Change, Command, Key, NamedColumns, PlainMap, RowRoom, Tenants, merge, merge_in};
 use std::fmt::Write;
-use std::process::Abort;
 
 /// A row of one column.
 pub fn row_of(rt: &impl Abort, alloc: Global, column: &[u8]) -> Row {

@@ -3,10 +3,9 @@
 ghost use Rattle.std.specs.Prelude.{◌≤◌, length};
 ghost use Rattle.mt_slices.specs.Fences.{least_from};
 
+use super::*;
 use mt_slices::{KeyRefusal, Mark, StoredKey, USER_KEY_BYTES};
-use std::alloc::Global;
 use std::cmp::Ordering;
-use std::process::Abort;
 
 fn key_of(rt: &impl Abort, alloc: Global, tenant: u32, user_key: &[u8]) -> StoredKey {
     StoredKey::new(alloc, tenant, user_key).expect(rt, "a short key")

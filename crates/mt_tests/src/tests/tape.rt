@@ -3,9 +3,8 @@
 ghost use Rattle.std.specs.Prelude.{◌≡◌};
 
 use super::rows::{key_of, row_of};
+use super::*;
 use mt_tape::{Entry, Tape};
-use std::alloc::Global;
-use std::process::Abort;
 
 // A put of the first row of key `k` of tenant 7.
 fn put(rt: &impl Abort, alloc: Global, step: u64, worker: u8) -> Entry
