@@ -2,15 +2,14 @@
 
 A figure's name is TABLE/ROW/COLUMN, as `pair/random/bytes`. A row is a list with a value for each of its table's `columns`, or it
 has its columns itself. A column's first word is its name, and the others are its unit; one word alone is both. A value is a number,
-null, or a list: TABLE/ROW/COLUMN/1 is its first number. A table that names no commit, machine and date has those
-of the file's head.
+null, or a list: TABLE/ROW/COLUMN/1 is its first number. A table that names no commit, machine and date has those of the file's head.
 
 A page names the figures that it says in a comment: at the end of the paragraph, list item or table row, or alone before a table.
 
     A pair takes 203 to 488 bytes.<!--figures:pair/random/bytes,pair/twins/bytes-->
 
-`*` stands for anything, and a list's name for all its numbers. NAME:NAME is a quotient. The values have to stand there in this order, among other numbers. A page may
-round a value. `bounds` in the file has what is spelled as a figure, and is an option, a limit or a load.
+`*` stands for anything, and a list's name for all its numbers. NAME:NAME is a quotient. The values have to stand there in this
+order, among other numbers. A page may round a value. `bounds` in the file has what is spelled as a figure, and is a limit or a load.
 """
 import fnmatch
 import functools
@@ -23,6 +22,7 @@ UNIT = (r"ns|nanoseconds?|us|µs|microseconds?|ms|milliseconds?|s|seconds?|minut
         r"|(?:requests |gets |puts |settles |calls )?a second|bytes (?:a|of a|for a|for each) (?:pair|key|connection)"
         r"|of (?:redis|the plain|a plain)")
 MEASURED = re.compile(rf"((?:{NUMBER}(?:, and|,| and| to|;| or)\s)*{NUMBER})\s({UNIT})\b")
+NUMBERS = re.compile(rf"(?:{NUMBER}(?:\s(?:{UNIT}))?(?:; |, | / )?)+")  # a cell of a table that has nothing else
 OF_SPEED = re.compile(r"\b(?:requests|gets|puts|settles) a second|bytes a pair|processor time", re.I)
 
 
@@ -48,10 +48,10 @@ def spelled(told, depth=0):
 
 
 def fits(said, value):
-    """Whether a number of a page is this value: rounded to its decimals, or to its zeros, with two digits left at least."""
+    """Whether a number of a page is this value: rounded to its decimals or its zeros, by a twentieth at most."""
     digits = said.replace(",", "")
-    places = len(digits.partition(".")[2]) or -min(len(digits) - len(digits.rstrip("0")), max(len(digits) - 2, 0))
-    return abs(value - float(digits)) <= 0.5000001 * 10.0 ** -places
+    places = len(digits.partition(".")[2]) or len(digits.rstrip("0")) - len(digits)
+    return abs(value - float(digits)) <= min(0.5 * 10.0 ** -places, 0.05 * abs(value)) + 1e-9
 
 
 @functools.cache
@@ -77,7 +77,8 @@ def values_of(word, figures):
     over, _, under = word.partition(":")
     if under:
         return {word: figures[over] / figures[under]} if over in figures and under in figures else {}
-    return {name: value for name, value in figures.items() if fnmatch.fnmatchcase(name, word) or fnmatch.fnmatchcase(name, word + "/*")}
+    matched = re.compile("|".join(map(fnmatch.translate, (word, word + "/*")))).match
+    return {name: value for name, value in figures.items() if matched(name)}
 
 
 def faults(text, figures, bounds):
@@ -99,5 +100,9 @@ def faults(text, figures, bounds):
             for number in re.findall(NUMBER, found[1]):
                 if f"{number} {found[2]}" not in bounds and not any(fits(number, value) for _, value in wanted):
                     yield start + prose.count("\n", 0, found.start()), f"{number} {found[2]}: no figure that is named here"
+        cells = [cell.strip() for row in prose.split("\n") for cell in row.split("|")[2:]] if MARKER.match(passage) else []
+        for number in (number for cell in cells if NUMBERS.fullmatch(cell) for number in re.findall(NUMBER, cell)):
+            if not any(fits(number, value) for _, value in wanted):
+                yield start, f"{number} in a cell of the table: no figure that is named before it"
         if head and not wanted and re.search(NUMBER, prose) and OF_SPEED.search(head + prose):
             yield start, "a row of a table of speed or memory that names no figure"
