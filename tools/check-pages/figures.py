@@ -9,7 +9,8 @@ A page names the figures that it says in a comment: at the end of the paragraph,
     A pair takes 203 to 488 bytes.<!--figures:pair/random/bytes,pair/twins/bytes-->
 
 `*` stands for anything, and a list's name for all its numbers. NAME:NAME is a quotient. The values have to stand there in this
-order, among other numbers. A page may round a value. `bounds` in the file has what is spelled as a figure, and is a limit or a load.
+order, among other numbers. A page may round a value, by a fiftieth at most. `bounds` in the file has what is spelled as a figure,
+and is a limit or a load.
 """
 import fnmatch
 import functools
@@ -48,10 +49,10 @@ def spelled(told, depth=0):
 
 
 def fits(said, value):
-    """Whether a number of a page is this value: rounded to its decimals or its zeros, by a twentieth at most."""
+    """Whether a number of a page is this value: rounded to its decimals or its zeros, by a fiftieth at most."""
     digits = said.replace(",", "")
     places = len(digits.partition(".")[2]) or len(digits.rstrip("0")) - len(digits)
-    return abs(value - float(digits)) <= min(0.5 * 10.0 ** -places, 0.05 * abs(value)) + 1e-9
+    return abs(value - float(digits)) <= min(0.5 * 10.0 ** -places, 0.02 * abs(value)) + 1e-9
 
 
 @functools.cache
