@@ -3,9 +3,13 @@
 //!
 //! What no clause says: that sessions come to these bytes at all, that a turn stops at 64 requests and at a full
 //! output, that a round gives each connection its turn, and that loops go on till all is told.
+//!
+//! And of `mt_resp_session`: what sessions of RESP are told, at each cut of their bytes.
 #![tactic(auto)]
 
 #[cfg(test)]
 mod clients;
 #[cfg(test)]
 mod loops;
+#[cfg(test)]
+mod words;
