@@ -10,3 +10,5 @@ pub mod Named
 pub mod Values
 pub mod LongStrings
 pub mod Numbers
+pub mod Stars
+pub mod SignedNumbers

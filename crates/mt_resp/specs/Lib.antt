@@ -6,6 +6,9 @@ pub mod Strings
 pub mod Names
 pub mod Arguments
 pub mod Making
+pub mod Numbers
+pub mod Patterns
+pub mod Lists
 pub mod Failing
 pub mod SetOptions
 pub mod StringCommands
@@ -18,4 +21,6 @@ pub mod Asking
 pub mod Shapes
 pub mod Refused
 pub mod Replies
+pub mod Edits
+pub mod Matching
 pub mod Laws

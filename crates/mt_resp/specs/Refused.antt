@@ -26,6 +26,8 @@ fault_text faults.Long = codes "-ERR Protocol error: a command has at most 65536
 abbrev pub failure_text : Failure → Bytes
 failure_text failures.Syntax = codes "-ERR syntax error\r\n"
 failure_text failures.NoInteger = codes "-ERR value is not an integer or out of range\r\n"
+failure_text failures.Overflow = codes "-ERR increment or decrement would overflow\r\n"
+failure_text failures.Busy = codes "-BUSY the row was changed 64 times meanwhile; try again\r\n"
 failure_text failures.NoField = codes "-ERR a field is the index of a column, 0 to 15\r\n"
 failure_text failures.NoNumber = codes "-ERR invalid DB index\r\n"
 failure_text failures.LongString = codes "-ERR a string has at most 15359 bytes\r\n"

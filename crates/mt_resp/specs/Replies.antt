@@ -1,13 +1,9 @@
 -- How what a client is told is spelled.
 use Rattle.std.specs.{Prelude.{ℕ, ◌+◌, ◌&&◌, List, [], ◌∷◌, ◌++◌, length, map, take, codes, decimal, slice_get, nat_le, Option, Some, None, if◌then◌else◌}, List.flat_map, Char.to_ascii_lowercase}
 use Rattle.mt_rows.specs.Rows.{Columns}
-use Rattle.mt_resp.specs.{Grammar.{Bytes, line_end, bulk}, Strings.value_of, Refused.failure_text, declared.told.{Told.Told, Kind.Kind}}
+use Rattle.mt_resp.specs.{Grammar.{Bytes, line_end, bulk}, Strings.value_of, Numbers.{number_line, spelling}, Lists.{scan_text, range_text}, Refused.failure_text, declared.told.{Told.Told, Kind.Kind}}
 use Rattle.mt_resp.specs.declared.told.Told.TheVariants as told
 use Rattle.mt_resp.specs.declared.told.Kind.TheVariants as kinds
-
--- a sign, a number, and the end of the line
-abbrev pub number_line : ℕ → ℕ → Bytes
-number_line sign n = sign ∷ (decimal n ++ line_end)
 
 -- nothing is there
 abbrev pub nil : Bytes
@@ -55,10 +51,14 @@ abbrev pub told_text : Told → Bytes
 told_text told.Nothing = []
 told_text told.Fine = codes "+OK\r\n"
 told_text told.Pong = codes "+PONG\r\n"
+told_text told.Reset = codes "+RESET\r\n"
+told_text told.Settled = codes "*2\r\n:1\r\n:0\r\n"
 told_text told.Greeting = greeting
 told_text told.Nil = nil
 told_text told.Empty = codes "*0\r\n"
 told_text (told.Number n) = number_line 58 n
+told_text (told.Signed amount) = 58 ∷ (spelling amount ++ line_end)
+told_text (told.Time seconds micros) = codes "*2\r\n" ++ (bulk (decimal seconds) ++ bulk (decimal micros))
 told_text (told.Text text) = bulk text
 told_text (told.Kind kind) = kind_text kind
 told_text (told.Value row) = bulk (value_of row.row)
@@ -67,6 +67,8 @@ told_text (told.Column row index) = column_text row.row index
 told_text (told.Picked None indexes) = picked_text [] indexes
 told_text (told.Picked (Some row) indexes) = picked_text row.row indexes
 told_text (told.Fields row) = number_line 42 (length row.row + length row.row) ++ fields_from 0 row.row
+told_text (told.Keys cursor pairs pattern) = scan_text cursor pairs pattern
+told_text (told.Pairs pairs prefix stamps) = range_text pairs prefix stamps
 told_text (told.Unknown word) = codes "-ERR unknown command '" ++ (shown_word word ++ codes "'\r\n")
 told_text (told.Arity word) = codes "-ERR wrong number of arguments for '" ++ (shown_word word ++ codes "' command\r\n")
 told_text (told.Failed failure) = failure_text failure

@@ -56,8 +56,10 @@ pub enum Asked {
         count: u64,
         stamps: bool,
     },
-    /// All pairs of the tenant are taken away.
-    Clear,
+    /// All pairs of the tenant are taken away, and it is told how many there were, if so asked.
+    Clear {
+        counted: bool,
+    },
     /// What was changed outlives a crash.
     Settle,
     /// What the server knows.

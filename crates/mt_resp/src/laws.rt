@@ -1,9 +1,12 @@
 //! Laws of reading, of numbers and of strings, each the contract of a function that does nothing.
 
-ghost use Rattle.std.specs.Prelude.{◌≡◌, ◌≤◌, ◌<◌, ◌^◌, ℕ, List, ◌++◌, length, decimal, Some, Ok, Err};
-ghost use Rattle.mt_rows.specs.{Rows.Columns, Changes.{IsChange, indexed, changed}};
+ghost use Rattle.std.specs.Prelude.{◌≡◌, ◌≤◌, ◌<◌, ◌⊎◌, ◌+◌, ◌^◌, ℕ, List, ◌++◌, length, decimal, Option, Some, None, Ok, Err};
+ghost use Rattle.mt_rows.specs.{Rows.Columns, Changes.{Named, IsChange, indexed, changed}, Stamps.{Stamped, columns_in}};
 ghost use Rattle.mt_resp.specs.{Commands.command_at, Grammar.{Bytes, IsSpelling}, Arguments.number_of, Laws.{IsExact, IsSpelled}, declared.stop.Fault.Fault, Strings.{columns_of, value_of}};
+ghost use Rattle.mt_resp.specs.{Numbers.{IsNumber, signed_of, spelling, sum_of, ups, downs}, Edits.edited_of, declared.arguments.Amount.{Amount}, declared.told.Told.{Told}};
 ghost use Rattle.mt_resp.specs.declared.stop.Stop.TheVariants as stops;
+ghost use Rattle.mt_resp.specs.declared.asked.Edit.TheVariants as edits;
+ghost use Rattle.mt_resp.specs.declared.edits.Edited.TheVariants as edited;
 
 /// A command that was read is what a text at the front spells, and is read again from that text, whatever follows. So a stream
 /// that comes in pieces is read as the whole is.
@@ -45,4 +48,21 @@ pub fn later_columns_play_no_part()
 /// A string of at most 15,359 bytes is what a put may write, and leaves the last column of a row.
 pub fn a_string_is_a_change()
     ensures { (value : Bytes) → length value ≤ 15359 → IsChange (indexed 0 (columns_of value)) × (length (columns_of value) ≤ 15) }
+{}
+
+/// A number of 64 bits has one spelling, and is read from it.
+pub fn a_signed_number_has_one_spelling()
+    ensures read { (number : Amount) → IsNumber number → signed_of (spelling number) ≡ Some number }
+    ensures spelled { (column : Bytes) (number : Amount) → 0 < length column → signed_of column ≡ Some number → IsNumber number × (column ≡ spelling number) }
+{}
+
+/// A sum is the sum of the two numbers; there is none if that has over 64 bits.
+pub fn a_sum_is_the_sum()
+    ensures sum { (a b sum : Amount) → sum_of a b ≡ Some sum → ups a + ups b + downs sum ≡ downs a + downs b + ups sum }
+    ensures none { (a b : Amount) → sum_of a b ≡ None → (downs a + downs b + 2 ^ 63 ≤ ups a + ups b) ⊎ (ups a + ups b + 2 ^ 63 < downs a + downs b) }
+{}
+
+/// A string that was appended to is got with the word at its end.
+pub fn what_is_appended_is_got()
+    ensures { (word : Bytes) (found : Option Stamped) (change : Named) (told : Told) → edited_of (edits.Append word) found ≡ edited.Put change told → value_of (changed change (columns_in found)) ≡ value_of (columns_in found) ++ word }
 {}

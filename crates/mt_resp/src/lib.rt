@@ -6,7 +6,9 @@
 
 pub mod arguments;
 pub mod asked;
+pub mod edits;
 pub mod laws;
+pub mod lists;
 pub mod making;
 pub mod names;
 pub mod on_fields;
@@ -15,6 +17,8 @@ pub mod on_links;
 pub mod on_numbers;
 pub mod on_scans;
 pub mod on_strings;
+pub mod patterns;
+pub mod signed;
 pub mod stop;
 pub mod strings;
 pub mod told;
@@ -24,7 +28,10 @@ pub mod writing;
 
 pub use arguments::Amount;
 pub use asked::{Asked, Edit, RangeWay, Status, When, meaning_of};
+pub use edits::{Edited, after_edit};
 pub use making::CommandList;
+pub use patterns::is_like;
+pub use signed::signed_in;
 pub use stop::Fault;
 pub use strings::{STRING_BYTES, columns_of, value_len, write_value};
 pub use told::{Failure, Kind, Shape, Told, picked};

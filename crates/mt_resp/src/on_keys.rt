@@ -1,13 +1,13 @@
 //! What commands of keys ask, whatever their rows.
 
 ghost use Rattle.std.specs.Prelude.{◌≡◌, IfOk};
-ghost use Rattle.mt_resp.specs.KeyCommands.{keys_asked};
+ghost use Rattle.mt_resp.specs.KeyCommands.{keys_asked, clear_asked};
 
-use crate::asked::{Asked, Status, miscounted};
+use crate::asked::{Asked, Status, failed, miscounted};
 use crate::making::{get_of, gets_of, remove_of, removes_of};
-use crate::names::KeyName;
+use crate::names::{KeyName, is_named};
 use crate::on_scans::{range_asked, scan_asked};
-use crate::told::Shape;
+use crate::told::{Failure, Shape};
 use crate::word::Word;
 use std::alloc::{AllocError, Global};
 
@@ -29,7 +29,20 @@ pub fn keys_asked(
         (KeyName::Scan, [cursor, options @ ..]) => scan_asked(alloc, cursor, options),
         (KeyName::Range, [from, count, options @ ..]) => range_asked(alloc, from, count, options),
         (KeyName::Count, []) => Ok(Asked::Status(Status::Count)),
-        (KeyName::Clear, _) => Ok(Asked::Clear),
+        (KeyName::Clear, options) => clear_asked(options),
         (_, _) => miscounted(alloc, word),
+    }
+}
+
+// FLUSHDB with its option: COUNT, ASYNC or SYNC.
+fn clear_asked(options: &[Word]) -> Result<Asked, AllocError>
+    ensures { IfOk result (λ asked. asked ≡ clear_asked options.now) }
+{
+    match options {
+        [] => Ok(Asked::Clear { counted: false }),
+        [option] if is_named(option.as_bytes(), b"count") => Ok(Asked::Clear { counted: true }),
+        [option] if is_named(option.as_bytes(), b"async") || is_named(option.as_bytes(), b"sync") =>
+            { Ok(Asked::Clear { counted: false }) }
+        _ => failed(Failure::Syntax),
     }
 }

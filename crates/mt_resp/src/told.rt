@@ -4,11 +4,12 @@ ghost use Rattle.std.specs.Prelude.{◌≡◌, length};
 ghost use Rattle.mt_rows.specs.Rows.{column};
 ghost use Rattle.mt_resp.specs.{Shapes.{told_of, told_of_row, picked_of, are_full, kind_of}};
 
+use crate::arguments::Amount;
 use crate::stop::Fault;
 use crate::strings::value_len;
 use crate::word::Word;
 use mt_rows::column::COLUMN_BYTES;
-use mt_rows::{Column, ColumnIndexes, Refusal, Reply, StampedRow};
+use mt_rows::{Column, ColumnIndexes, Key, PairList, Refusal, Reply, StampedRow};
 
 /// What a client is told.
 #[derive(Debug, Drop)]
@@ -19,6 +20,10 @@ pub enum Told {
     Fine,
     /// The answer to a ping.
     Pong,
+    /// That the connection is as it was at its beginning.
+    Reset,
+    /// That what was changed outlives a crash, of this server alone.
+    Settled,
     /// Who serves, and by which version of the protocol.
     Greeting,
     /// That nothing is there.
@@ -27,6 +32,10 @@ pub enum Told {
     Empty,
     /// A number.
     Number(u64),
+    /// A signed number.
+    Signed(Amount),
+    /// The time since 1970: seconds, and microseconds.
+    Time { seconds: u64, micros: u32 },
     /// A text.
     Text(Word),
     /// What a row is.
@@ -41,6 +50,10 @@ pub enum Told {
     Picked(Option<StampedRow>, ColumnIndexes),
     /// All columns of a row, each after its index.
     Fields(StampedRow),
+    /// The cursor to go on from, and the keys that are like the pattern, if there is one.
+    Keys(u64, PairList, Option<Word>),
+    /// The pairs whose keys begin with this one, if there is one, and their stamps, if so asked.
+    Pairs(PairList, Option<Key>, bool),
     /// No command has this name.
     Unknown(Word),
     /// The command of this name has another number of words.
@@ -67,6 +80,10 @@ pub enum Failure {
     Syntax,
     /// A word is no number, or one out of range.
     NoInteger,
+    /// A sum is no number of 64 bits.
+    Overflow,
+    /// The row was changed by others each time.
+    Busy,
     /// A field is no index of a column.
     NoField,
     /// No database has this number.

@@ -1,9 +1,11 @@
 //! How what a client is told is written. Each function leaves what was written before, also if it fails.
 
-ghost use Rattle.std.specs.{Prelude.{◌≡◌, ◌++◌, ◌≤◌, ◌<◌, ◌+◌, length, map, take, decimal, OnOk}, List.{All}};
-ghost use Rattle.mt_resp.specs.{Grammar.bulk, Strings.value_of};
-ghost use Rattle.mt_resp.specs.{Replies.{told_text, kind_text, column_text, fields_from, number_line, stamped_text, greeting, picked_text, shown_byte, shown_word}, Refused.{failure_text, fault_text, refusal_text}};
+ghost use Rattle.std.specs.{Prelude.{◌≡◌, ◌∷◌, ◌++◌, ◌≤◌, ◌<◌, ◌+◌, length, map, take, codes, decimal, OnOk}, List.{All}};
+ghost use Rattle.mt_resp.specs.{Grammar.{bulk, line_end}, Strings.value_of};
+ghost use Rattle.mt_resp.specs.{Numbers.{number_line, spelling}, Replies.{told_text, kind_text, column_text, fields_from, stamped_text, greeting, picked_text, shown_byte, shown_word}, Refused.{failure_text, fault_text, refusal_text}};
 
+use crate::arguments::Amount;
+use crate::lists::{write_range, write_scan};
 use crate::stop::Fault;
 use crate::strings::{value_len, write_value};
 use crate::told::{Failure, Kind, Told};
@@ -36,6 +38,8 @@ impl Failure {
         match self {
             Failure::Syntax => "-ERR syntax error\r\n",
             Failure::NoInteger => "-ERR value is not an integer or out of range\r\n",
+            Failure::Overflow => "-ERR increment or decrement would overflow\r\n",
+            Failure::Busy => "-BUSY the row was changed 64 times meanwhile; try again\r\n",
             Failure::NoField => "-ERR a field is the index of a column, 0 to 15\r\n",
             Failure::NoNumber => "-ERR invalid DB index\r\n",
             Failure::LongString => "-ERR a string has at most 15359 bytes\r\n",
@@ -93,10 +97,14 @@ pub fn write_told(told: &Told, out: &mut Vec<u8>) -> Result<(), AllocError>
         Told::Nothing => Ok(()),
         Told::Fine => out.extend_from_slice(b"+OK\r\n"),
         Told::Pong => out.extend_from_slice(b"+PONG\r\n"),
+        Told::Reset => out.extend_from_slice(b"+RESET\r\n"),
+        Told::Settled => out.extend_from_slice(b"*2\r\n:1\r\n:0\r\n"),
         Told::Greeting => out.extend_from_slice(GREETING.as_bytes()),
         Told::Nil => out.extend_from_slice(b"$-1\r\n"),
         Told::Empty => out.extend_from_slice(b"*0\r\n"),
         Told::Number(number) => write_number(b':', *number, out),
+        Told::Signed(number) => write_signed(*number, out),
+        Told::Time { seconds, micros } => write_time(*seconds, *micros, out),
         Told::Text(text) => write_bulk(text.as_bytes(), out),
         Told::Kind(kind) => out.extend_from_slice(kind.text().as_bytes()),
         Told::Value(row) => write_string(row.row.columns(), out),
@@ -107,6 +115,8 @@ pub fn write_told(told: &Told, out: &mut Vec<u8>) -> Result<(), AllocError>
         }
         Told::Picked(None, indexes) => write_picked(&[], indexes.as_slice(), out),
         Told::Fields(row) => write_fields(row.row.columns(), out),
+        Told::Keys(cursor, pairs, pattern) => write_scan(*cursor, pairs, pattern, out),
+        Told::Pairs(pairs, prefix, stamps) => write_range(pairs, prefix, *stamps, out),
         Told::Unknown(word) => {
             write_refused(b"-ERR unknown command '", word.as_bytes(), b"'\r\n", out)
         }
@@ -131,8 +141,37 @@ pub fn write_number(sign: u8, number: u64, out: &mut Vec<u8>) -> Result<(), Allo
     out.extend_from_slice(b"\r\n")
 }
 
-// A bulk string.
-fn write_bulk(text: &[u8], out: &mut Vec<u8>) -> Result<(), AllocError>
+// A signed number on a line of its own.
+fn write_signed(number: Amount, out: &mut Vec<u8>) -> Result<(), AllocError>
+    ensures ok { OnOk result (out.new.items ≡ out.old.items ++ 58 ∷ (spelling number ++ line_end)) }
+    ensures front { take (length out.old.items) out.new.items ≡ out.old.items }
+{
+    out.push(b':')?;
+    number.write(out)?;
+    out.extend_from_slice(b"\r\n")
+}
+
+// A list of the seconds and microseconds of a time.
+fn write_time(seconds: u64, micros: u32, out: &mut Vec<u8>) -> Result<(), AllocError>
+    ensures ok { OnOk result (out.new.items ≡ out.old.items ++ (codes "*2\r\n" ++ (bulk (decimal seconds) ++ bulk (decimal micros)))) }
+    ensures front { take (length out.old.items) out.new.items ≡ out.old.items }
+{
+    out.extend_from_slice(b"*2\r\n")?;
+    write_decimal(seconds, out)?;
+    write_decimal(u64::from(micros), out)
+}
+
+/// A number as a bulk string.
+pub fn write_decimal(number: u64, out: &mut Vec<u8>) -> Result<(), AllocError>
+    ensures ok { OnOk result (out.new.items ≡ out.old.items ++ bulk (decimal number)) }
+    ensures front { take (length out.old.items) out.new.items ≡ out.old.items }
+{
+    let mut buffer = Buffer::new();
+    write_bulk(buffer.format(number).as_bytes(), out)
+}
+
+/// A bulk string.
+pub fn write_bulk(text: &[u8], out: &mut Vec<u8>) -> Result<(), AllocError>
     ensures ok { OnOk result (out.new.items ≡ out.old.items ++ bulk text.now) }
     ensures front { take (length out.old.items) out.new.items ≡ out.old.items }
 {
@@ -141,8 +180,8 @@ fn write_bulk(text: &[u8], out: &mut Vec<u8>) -> Result<(), AllocError>
     out.extend_from_slice(b"\r\n")
 }
 
-// The string of a row's columns.
-fn write_string(columns: &[Column], out: &mut Vec<u8>) -> Result<(), AllocError>
+/// The string of a row's columns.
+pub fn write_string(columns: &[Column], out: &mut Vec<u8>) -> Result<(), AllocError>
     requires few { length columns.now ≤ 16 }
     requires short { All (λ column. length column ≤ 1024) columns.now }
     ensures ok { OnOk result (out.new.items ≡ out.old.items ++ bulk (value_of columns.now)) }
@@ -206,8 +245,7 @@ fn write_field(index: u64, text: &[u8], out: &mut Vec<u8>) -> Result<(), AllocEr
     ensures ok { OnOk result (out.new.items ≡ out.old.items ++ (bulk (decimal index) ++ bulk text.now)) }
     ensures front { take (length out.old.items) out.new.items ≡ out.old.items }
 {
-    let mut buffer = Buffer::new();
-    write_bulk(buffer.format(index).as_bytes(), out)?;
+    write_decimal(index, out)?;
     write_bulk(text, out)
 }
 

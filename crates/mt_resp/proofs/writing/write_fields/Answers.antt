@@ -1,5 +1,5 @@
 use Rattle.std.proofs.Common.{◌+◌, length}
-use Rattle.mt_resp.specs.Replies.{number_line}
+use Rattle.mt_resp.specs.Numbers.{number_line}
 use Rattle.mt_resp.proofs.Fields.{more_written, front_then}
 use Rattle.mt_resp.proofs.writing.write_fields.Goals as goal
 

@@ -1,5 +1,5 @@
 use Rattle.std.proofs.Common.{◌≡◌, ◌+◌, ◌++◌, length, take}
-use Rattle.mt_resp.specs.Replies.{fields_from, number_line}
+use Rattle.mt_resp.specs.{Numbers.number_line, Replies.fields_from}
 use Rattle.mt_resp.proofs.writing.write_fields.Given as goal
 
 abbrev pub invariant-loop-index : goal.invariant-loop-index

@@ -1,6 +1,6 @@
 use Rattle.std.proofs.Common.{◌≡◌, ◌++◌, length, take}
 use Rattle.std.specs.List.{flat_map}
-use Rattle.mt_resp.specs.Replies.{column_text, number_line}
+use Rattle.mt_resp.specs.{Numbers.number_line, Replies.column_text}
 use Rattle.mt_resp.proofs.writing.write_picked.Given as goal
 
 abbrev pub invariant-loop-index : goal.invariant-loop-index
