@@ -1,0 +1,5 @@
+pub mod Asking
+pub mod Telling
+pub mod Rounds
+pub mod Results
+pub mod Clearing

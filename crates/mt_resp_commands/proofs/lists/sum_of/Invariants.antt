@@ -1,0 +1,10 @@
+use Rattle.mt_resp.specs.Shapes.{told_of}
+use Rattle.mt_resp_commands.specs.{Links.{Asked, ButSettles}, Lists.{plus}}
+use Rattle.mt_resp_commands.proofs.Telling.{Continues}
+use Rattle.mt_resp_commands.proofs.lists.sum_of.Given as goal
+
+abbrev pub invariant-loop-command : goal.invariant-loop-command
+invariant-loop-command g l = record {
+  told : Continues g.C.Caller.exchanges (told_of l.shape) plus l.fn.first l.fn.link l.fn.caller l.fn.commands.items l.sum l.link l.caller l.command-iterator.rest.items;
+  led : Asked (ButSettles g.C.Caller.exchanges) l.fn.caller l.caller;
+}

@@ -1,0 +1,4 @@
+pub mod Transcripts
+pub mod Calls
+pub mod Asking
+pub mod Settles
