@@ -1,5 +1,5 @@
 -- Why a server ended before its time.
-use Rattle.std.specs.Prelude.{ℕ, List}
+use Rattle.std.specs.Prelude.{◌≡◌, ℕ, List}
 use Rattle.mt_rows.specs.declared.refusal.Refusal.{Refusal}
 use Rattle.mt_options.specs.declared.tenants.TenantQuota.{TenantQuota}
 use Rattle.mt_store_files.specs.Faults.{status_of as store_status}
@@ -23,6 +23,11 @@ abbrev pub IsOfTenants : List TenantQuota → ServerFault → Type 0
 IsOfTenants tenants Memory = Unit {0}
 IsOfTenants tenants (Refused refusal) = ¬ AreServable tenants
 IsOfTenants tenants fault = ⊥
+
+-- in listening: the port
+abbrev pub IsOfPort : ℕ → ServerFault → Type 0
+IsOfPort port (Listen other error) = other ≡ port
+IsOfPort port fault = ⊥
 
 -- in writing a line: memory, or the output, if that failed
 abbrev pub IsOfWriting : Type 0 → ServerFault → Type 0

@@ -8,6 +8,7 @@ pub mod Histories
 pub mod Lines
 pub mod Loops
 pub mod ServedStore
+pub mod Starts
 pub mod Sessions
 pub mod StoreFaults
 pub mod ReadStores

@@ -1,7 +1,7 @@
 -- What is opened for a server, and why nothing is.
 use Rattle.std.specs.Prelude.{◌≡◌, ◌⊎◌, ℕ, Bool, true, false, List, Option, Some, None, IsSome, length}
 use Rattle.mt_rows.specs.Accounts.{Accounts}
-use Rattle.mt_disk.specs.{declared.cached.CachedDisk.CachedDisk, declared.file.OsFile.OsFile}
+use Rattle.mt_disk.specs.{Disk.DiskState, declared.cached.CachedDisk.CachedDisk, declared.file.OsFile.OsFile}
 use Rattle.std.specs.declared.fs.File.{File}
 use Rattle.mt_state.specs.{Begins.new_state, Views.StateView}
 use Rattle.mt_options.specs.{declared.options.Options.Options, declared.options.StorePlace.StorePlace, declared.tenants.TenantQuota.TenantQuota}
@@ -12,7 +12,7 @@ use Rattle.mt_store_logs.specs.{declared.store_log.StoreLog.StoreLog, declared.f
 use Rattle.mt_book.specs.Keeping.{IsUnasked}
 use Rattle.mt_stored.specs.Stores.{IsNewStore, IsNotMade}
 use Rattle.mt_service.specs.{declared.served_store.OpenStore.OpenStore, declared.faults.ServerFault.ServerFault}
-use Rattle.mt_service.specs.{declared.faults.ServerFault.TheVariants.{Refused, Memory, Store as StoreFaulty}, Accounts.{AreServable, AreAccountsOf}}
+use Rattle.mt_service.specs.{declared.faults.ServerFault.TheVariants.{Refused, Memory, Store as StoreFaulty, Listen}, Accounts.{AreServable, AreAccountsOf}}
 use Rattle.mt_service.specs.{StoreFaults.fault_of, ReadStores.{is_honest, holds, failures, IsRecoveredFrom, IsOfReading}}
 
 -- a disk on a file of the system
@@ -20,10 +20,14 @@ abbrev pub FileDisk : Type 0
 FileDisk = CachedDisk (OsFile File)
 
 -- a store that was made anew on the files of so many workers and two slots
+abbrev pub IsMadeFrom : {D : Type 0} → (D → Bool) → (D → DiskState) → (D → ℕ) → ℕ → Accounts → StateView → List (StoreLog D) → Option (StoreSlots D) → Type 0
+IsMadeFrom {D} honest state failed workers accounts v logs slots =
+    (files : List (WorkerFiles D)) × (bare : StoreSlots D) × (length files ≡ workers) × IsNewStore honest state failed files bare accounts v logs slots
+
+-- the same, on files of the system
 abbrev pub IsMadeOn : ℕ → Accounts → OpenStore → Type 0
 IsMadeOn workers accounts opened =
-    (files : List (WorkerFiles FileDisk)) × (bare : StoreSlots FileDisk) × (length files ≡ workers)
-    × IsNewStore is_honest holds failures files bare accounts opened.store.source.state opened.store.logs.items opened.store.slots
+    IsMadeFrom is_honest holds failures workers accounts opened.store.source.state opened.store.logs.items opened.store.slots
 
 -- a store that was recovered from such files and slots
 abbrev pub IsRecovered : ℕ → Accounts → StateView → List (StoreLog FileDisk) → Option (StoreSlots FileDisk) → Type 0
@@ -69,9 +73,10 @@ IsOfStore (Some place) workers tenants told =
     (told.folder.bytes.items ≡ place.folder.bytes.items)
     × ((accounts : Accounts) × AreAccountsOf (length tenants) tenants accounts × IsOfPlace place.create workers accounts told.fault)
 
--- why: memory; one of the tenants, which can't be served; or the store that is named
+-- why: memory; one of the tenants, which can't be served; the store that is named; or the port
 abbrev pub IsOfOpening : Options → ServerFault → Type 0
 IsOfOpening options Memory = Unit {0}
 IsOfOpening options (Refused refusal) = ¬ AreServable options.tenants.items
 IsOfOpening options (StoreFaulty fault) = IsOfStore options.store options.workers options.tenants.items fault
+IsOfOpening options (Listen port error) = port ≡ options.port
 IsOfOpening options fault = ⊥

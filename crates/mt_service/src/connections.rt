@@ -1,5 +1,9 @@
 //! Sockets: how a server listens, and how a connection's socket is set up and left.
 
+ghost use Rattle.std.specs.Prelude.{IfErr};
+ghost use Rattle.mt_service.specs.Faults.{IsOfPort};
+
+use crate::faults::ServerFault;
 use mt_options::Options;
 use std::io::{self, Read};
 use std::net::{Net, Shutdown, SocketAddr, TcpListener, TcpStream};
@@ -14,9 +18,22 @@ const LINGER_SECONDS: u64 = 1;
 /// And for so many bytes at most.
 const LINGER_BYTES: usize = 65_536;
 
-/// A listener at the port of 127.0.0.1 that the options name. With one connection at a time, the system keeps up to 128 that
-/// wait to be accepted, else as many as it ever does.
-pub fn listen<R: Net<Listener = TcpListener, Stream = TcpStream>>(
+/// A listener at the port of 127.0.0.1 that the options name, or `Listen`.
+pub(crate) fn listen<R: Net<Listener = TcpListener, Stream = TcpStream>>(
+    rt: &R,
+    options: &Options,
+) -> Result<TcpListener, ServerFault>
+    ensures { IfErr result (IsOfPort options.now.port) }
+{
+    let port = options.port;
+    match bind(rt, options) {
+        Ok(listener) => Ok(listener),
+        Err(error) => Err(ServerFault::Listen { port, error }),
+    }
+}
+
+// With one connection at a time, the system keeps up to 128 that wait to be accepted, else as many as it ever does.
+fn bind<R: Net<Listener = TcpListener, Stream = TcpStream>>(
     rt: &R,
     options: &Options,
 ) -> io::Result<TcpListener> {

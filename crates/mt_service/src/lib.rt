@@ -1,6 +1,6 @@
 //! The server as a library: a listener's sessions, answered by a crew of workers over one book.
 //!
-//! `open_store` opens the store that the options name, and `verify_store` only reads one. `run_server` makes its book, gives each worker a pass,
+//! `open_store` opens the store that the options name, and listens; `verify_store` only reads one. `run_server` makes its book, gives each worker a pass,
 //! lets the crew serve, settles at the end, and tells the sum of the answers. A worker answers a stream's
 //! session by `serve` of `mt_session`, with a caller that asks the book through its pass, and keeps the answers
 //! in the store's logs. `specs/Asking.antt` says what such a caller may answer. Beside the crew a turner makes the
@@ -25,7 +25,6 @@ mod warnings;
 pub mod workers;
 
 pub use callers::DeskCaller;
-pub use connections::listen;
 pub use faults::ServerFault;
 pub use folder_digests::FolderDigests;
 pub use laws::a_settled_number_covers_each_answer_that_was_seen;
