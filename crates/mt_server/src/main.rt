@@ -9,9 +9,7 @@ use log::sink::Console;
 use log::{Level, Logged, warn};
 use mt_book::Names;
 use mt_command_line::{OptionsFault, read_options, remedy};
-use mt_service::{
-    FolderDigests, OpenStore, ServerFault, listen, open_store, run_server, verify_store,
-};
+use mt_service::{FolderDigests, OpenStore, ServerFault, open_store, run_server, verify_store};
 use std::env::{self, Env, FillError};
 use std::io::{self, ErrorKind};
 use std::marker::Brand;
@@ -35,16 +33,13 @@ fn main(rt: HostRuntime) -> ExitCode {
         return ended(&rt, said.map(|()| 0));
     }
     // The folder stays locked up to the end.
-    let OpenStore { store, mut folder } = match open_store(&rt, rt.alloc(), &options) {
+    let OpenStore {
+        store,
+        mut folder,
+        listener,
+    } = match open_store(&rt, rt.alloc(), &options) {
         Ok(opened) => opened,
         Err(fault) => return ended(&rt, Err(fault)),
-    };
-    let listener = match listen(&rt, &options) {
-        Ok(listener) => listener,
-        Err(error) => {
-            let port = options.port;
-            return ended(&rt, Err(ServerFault::Listen { port, error }));
-        }
     };
     let names = Names::new(store.state());
     let end = run_server::<Brand, Brand, _, _, _, _>(

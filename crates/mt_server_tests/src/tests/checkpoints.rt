@@ -27,7 +27,7 @@ pub fn serve<R: Host + Net<Listener = TcpListener, Stream = TcpStream> + Files<F
     line: &str,
     told: &[Told],
 ) {
-    let OpenStore { store, folder } = opened(rt, alloc, line);
+    let OpenStore { store, folder, .. } = opened(rt, alloc, line);
     let (_, _, slots) = serve_told(rt, alloc, store, line, told).into_parts();
     assert!(rt; slots.is_some(), "{line}: the slots are gone");
     drop(folder);
@@ -169,7 +169,11 @@ fn a_start_tells_a_value_that_changed(rt: HostRuntime) -> Result<(), Fail> {
     let client = connect(&rt, listener.local_addr()?.port())?;
     let line =
         "mt_server --workers 1 --store mt_server_tests_rot --checkpoint 1 --sessions 1 --create 7:100";
-    let OpenStore { store, mut folder } = opened(&rt, rt.alloc(), line);
+    let OpenStore {
+        store,
+        mut folder,
+        ..
+    } = opened(&rt, rt.alloc(), line);
     let digests = FolderDigests::new(&rt, rt.alloc(), &mut folder);
     let (_, end) = serve_beside(&rt, rt.alloc(), listener, line, store, digests, move || {
         are_told(&client, &[OPEN, PUT, SETTLE_6])

@@ -5,13 +5,26 @@ ghost use Rattle.mt_book.specs.Keeping.{IsUnasked};
 use super::checkpoints::serve;
 use super::stores::RESUME;
 use super::*;
+use mt_options::Options;
 use mt_service::open_store;
 
+// The options of a line. At no port of its own it listens at a free one.
+fn at_a_free_port(rt: &impl Abort, alloc: Global, line: &str) -> Options {
+    let mut options = options_of(rt, alloc, line);
+    if !line.contains("--port") {
+        options.port = 0;
+    }
+    options
+}
+
 // How the opening that a line names ends: the status, and what is said.
-fn told_of<R: Host + Files<File = File>>(rt: &R, alloc: Global, line: &str) -> String {
-    let options = options_of(rt, alloc, line);
-    match open_store(rt, alloc, &options) {
-        Ok(OpenStore { store: _, folder }) => {
+fn told_of<R: Host + Net<Listener = TcpListener, Stream = TcpStream> + Files<File = File>>(
+    rt: &R,
+    alloc: Global,
+    line: &str,
+) -> String {
+    match open_store(rt, alloc, &at_a_free_port(rt, alloc, line)) {
+        Ok(OpenStore { folder, .. }) => {
             assert!(rt; folder.is_some(), "{line}");
             String::from_str(alloc, "0: ").expect(rt, "memory")
         }
@@ -20,7 +33,12 @@ fn told_of<R: Host + Files<File = File>>(rt: &R, alloc: Global, line: &str) -> S
 }
 
 /// The opening that a line names ends so: this is the status, and how what is said begins.
-pub fn expect_told<R: Host + Files<File = File>>(rt: &R, alloc: Global, line: &str, wanted: &str) {
+pub fn expect_told<R: Host + Net<Listener = TcpListener, Stream = TcpStream> + Files<File = File>>(
+    rt: &R,
+    alloc: Global,
+    line: &str,
+    wanted: &str,
+) {
     let told = told_of(rt, alloc, line);
     assert!(rt; told.starts_with(wanted), "{line}: {told}");
 }
@@ -56,9 +74,29 @@ fn stores_are_opened_and_refused(rt: HostRuntime) -> Result<(), Fail> {
     Ok(())
 }
 
+// A port that is in use leaves what stands in the folder, also if the store is to be made anew.
+#[test]
+fn a_port_in_use_leaves_the_store(rt: HostRuntime) -> Result<(), Fail> {
+    let _ = fs::remove_dir_all(&rt, "mt_server_tests_port");
+    fs::create_dir(&rt, "mt_server_tests_port")?;
+    fs::write(&rt, "mt_server_tests_port/wal-00", "x")?;
+    let listener = TcpListener::bind(&rt, ("127.0.0.1", 0u16))?;
+    let port = listener.local_addr()?.port();
+    for connections in ["", "--connections 2 "] {
+        let line = format!(in rt.alloc();
+            "mt_server --port {port} {connections}--store mt_server_tests_port --create 7:1"
+        )?;
+        let told = format!(in rt.alloc(); "1: 127.0.0.1:{port} can't be listened at: ")?;
+        expect_told(&rt, rt.alloc(), line.as_str(), told.as_str());
+        expect_file(&rt, "mt_server_tests_port/wal-00", &["x".as_bytes()]);
+    }
+    fs::remove_dir_all(&rt, "mt_server_tests_port")?;
+    Ok(())
+}
+
 // The plain file of the only worker is missing, beside numbered ones that are spare, or empty, or missing too. Then it is a
 // folder.
-fn expect_no_log<R: Host + Files<File = File>>(
+fn expect_no_log<R: Host + Net<Listener = TcpListener, Stream = TcpStream> + Files<File = File>>(
     rt: &R,
     alloc: Global,
     line: &str,
@@ -168,7 +206,11 @@ fn image_with(alloc: Global, log: &[u8], edits: &str, len: &str) -> Result<Vec<u
 
 // A store in the folder `mt_server_tests_bad` whose plain files are replaced by such ones is refused so. It has no numbered
 // ones and no slots, as a store of an older server, and has none after that either.
-fn expect_refused<R: Host + Files<File = File>>(rt: &R, alloc: Global, row: &str) {
+fn expect_refused<R: Host + Net<Listener = TcpListener, Stream = TcpStream> + Files<File = File>>(
+    rt: &R,
+    alloc: Global,
+    row: &str,
+) {
     let (files, told) = row.split_once(" => ").expect(rt, "a row has two parts");
     let (len, logs) = files.split_once(" | ").expect(rt, "a row has logs");
     let workers = logs.split(" | ").count();
@@ -208,7 +250,9 @@ fn spares_of(alloc: Global, workers: usize) -> Result<Vec<String>, AllocError> {
 }
 
 // A store in that folder with such a plain file and such a numbered one is refused so, and both stay.
-fn expect_numbered_refused<R: Host + Files<File = File> + Alloc>(rt: &R, alloc: Global, row: &str) {
+fn expect_numbered_refused<
+    R: Host + Net<Listener = TcpListener, Stream = TcpStream> + Files<File = File> + Alloc,
+>(rt: &R, alloc: Global, row: &str) {
     let (files, told) = row.split_once(" => ").expect(rt, "a row has two parts");
     let (names, next) = files.split_once(" | ").expect(rt, "a row has a log");
     let (len, edits) = next.split_once(" | ").expect(rt, "a log has a length");
@@ -280,10 +324,14 @@ fn a_missing_file_is_named_and_stays_missing(rt: HostRuntime) -> Result<(), Fail
 }
 
 // The store that a line names.
-pub fn opened<R: Host + Files<File = File>>(rt: &R, alloc: Global, line: &str) -> OpenStore
+pub fn opened<R: Host + Net<Listener = TcpListener, Stream = TcpStream> + Files<File = File>>(
+    rt: &R,
+    alloc: Global,
+    line: &str,
+) -> OpenStore
     ensures { IsUnasked result.store.source.state }
 {
-    match open_store(rt, alloc, &options_of(rt, alloc, line)) {
+    match open_store(rt, alloc, &at_a_free_port(rt, alloc, line)) {
         Ok(opened) => opened,
         Err(_) => panic!(rt; "{line}: not opened"),
     }
@@ -319,7 +367,7 @@ fn a_store_comes_back_from_its_files(rt: HostRuntime) {
         assert!(rt; fs::remove_file(&rt, path).is_ok());
     }
     let again = "mt_server --workers 1 --store mt_server_tests_files --sessions 1 7:100";
-    let OpenStore { store, folder } = opened(&rt, rt.alloc(), again);
+    let OpenStore { store, folder, .. } = opened(&rt, rt.alloc(), again);
     expect_file(&rt, "mt_server_tests_files/wal-00", &[&LOG[..54], RESUME]);
     for &path in &BESIDE_THE_LOG {
         expect_file(&rt, path, &[SPARE]);
