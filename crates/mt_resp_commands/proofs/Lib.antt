@@ -3,3 +3,5 @@ pub mod Telling
 pub mod Rounds
 pub mod Results
 pub mod Clearing
+pub mod Pages
+pub mod Leading

@@ -78,7 +78,7 @@ fn removes_of(alloc: Global, pairs: &PairList) -> Result<Vec<Command>, AllocErro
 {
     let mut commands = Vec::with_capacity(alloc, pairs.as_slice().len())?;
     for (key, _) in pairs.as_slice() {
-        commands.push(Command::Remove { key: key.clone()? })?;
+        commands.push(Command::Remove { key: copied(key)? })?;
     }
     Ok(commands)
 }
@@ -88,7 +88,7 @@ fn last_key(pairs: &PairList) -> Result<Option<Key>, AllocError>
     ensures { IfOk result (λ last. IsLastKey pairs.now last) }
 {
     match pairs.as_slice() {
-        [.., (key, _)] if pairs.as_slice().len() >= usize::from(PAGE) => Ok(Some(key.clone()?)),
+        [.., (key, _)] if pairs.as_slice().len() >= usize::from(PAGE) => Ok(Some(copied(key)?)),
         _ => Ok(None),
     }
 }
@@ -101,4 +101,10 @@ fn cleared_told(counted: bool, sum: Told) -> Told
         Told::Number(_) if !counted => Told::Fine,
         other => other,
     }
+}
+
+fn copied(key: &Key) -> Result<Key, AllocError>
+    ensures { IfOk result (λ copy. copy ≡ key.now) }
+{
+    key.clone()
 }

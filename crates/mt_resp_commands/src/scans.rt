@@ -1,7 +1,7 @@
 //! Pages of keys: SCAN with its cursors, and RANGE.
 
-ghost use Rattle.std.specs.Prelude.{◌≡◌, IfOk};
-ghost use Rattle.mt_resp_commands.specs.{Links.{Asked, ButSettles}, Scans.{IsPaged, page_of, IsBegun, IsCursor, IsScanned, IsRanged, scan_count}};
+ghost use Rattle.std.specs.Prelude.{◌≡◌, ◌<◌, IfOk};
+ghost use Rattle.mt_resp_commands.specs.{Links.{Asked, ButSettles}, Scans.{IsPaged, page_of, IsBegun, IsCursor, IsScanned, IsRanged, scan_count, prefix_of, is_after}};
 
 use crate::knowing::Knows;
 use crate::link::{Link, Said, refused};
@@ -72,6 +72,7 @@ fn cursor_after<C: Knows>(
     count: u8,
     pairs: &PairList,
 ) -> Result<u64, AllocError>
+    requires { 0 < count }
     ensures { IfOk result (λ cursor. IsCursor C.knows tenant count pairs.now cursor caller.now) }
 {
     match pairs.as_slice() {
@@ -128,13 +129,25 @@ pub(crate) fn range<C: Caller>(
     if count == 0 || count > u64::from(PAGE) {
         return Ok(refused(Refusal::ScanCount));
     }
-    let prefix = match way {
-        RangeWay::Prefix => Some(from.clone()?),
-        RangeWay::From | RangeWay::After => None,
-    };
-    let after = matches!(way, RangeWay::After);
-    match page(alloc, caller, link, page_of(alloc, from, after, count as u8))? {
+    let prefix = prefix_of(way, &from)?;
+    match page(alloc, caller, link, page_of(alloc, from, is_after(way), count as u8))? {
         Ok(pairs) => Ok(Told::Pairs(pairs, prefix, stamps)),
         Err(one) => Ok(one),
     }
+}
+
+// With what the keys of a range begin.
+fn prefix_of(way: RangeWay, from: &Key) -> Result<Option<Key>, AllocError>
+    ensures { IfOk result (λ prefix. prefix ≡ prefix_of way from.now) }
+{
+    match way {
+        RangeWay::Prefix => Ok(Some(from.clone()?)),
+        RangeWay::From | RangeWay::After => Ok(None),
+    }
+}
+
+fn is_after(way: RangeWay) -> bool
+    ensures { result ≡ is_after way }
+{
+    matches!(way, RangeWay::After)
 }
