@@ -72,7 +72,13 @@ fn told(alloc: Global, bytes: &[u8], piece: usize) -> Result<Vec<u8>, AllocError
     let mut output = Vec::new(alloc);
     for more in bytes.chunks(piece.max(1)) {
         input.extend_from_slice(more)?;
-        while let Some(goes_on) = go_on(alloc, &mut server, &mut session, &mut input, &mut output)? {
+        while let Some(goes_on) = go_on(
+            alloc,
+            &mut server,
+            &mut session,
+            &mut input,
+            &mut output,
+        )? {
             if !goes_on {
                 return Ok(output);
             }
@@ -143,9 +149,18 @@ const SESSIONS: [(&str, &str); 14] = [
         "SET a 1\nGETS a\nPUTIF a 1 2\nPUTIF a 1 3\nSET a 4 IFSTAMP 3\nGET a\n",
         "+OK|*2|$1|1|:1|+OK|$-1|+OK|$1|4|",
     ),
-    ("SET a 1\nWAITAOF 1 0 0\nWAIT 0 0\nGET a\n", "+OK|*2|:1|:0|:0|$1|1|"),
-    ("MSET a 1 b 2 c 3\nFLUSHDB\nMSET a 1 b 2\nFLUSHDB COUNT\nGET a\nFLUSHDB NOW\n", "+OK|+OK|+OK|:2|$-1|-ERR syntax error|"),
-    ("AUTH x\nHELLO 3\nCLIENT SETNAME x\nCOMMAND\nMULTI\nEXPIRE a 1\nSET a 1 EX 5\nGET a\n", "-ERR there are no passwords here; SELECT the tenant|-NOPROTO unsupported protocol version|+OK|*0|-ERR no transactions here; send a pipeline without MULTI|-ERR nothing expires here|-ERR nothing expires here|$-1|"),
+    (
+        "SET a 1\nWAITAOF 1 0 0\nWAIT 0 0\nGET a\n",
+        "+OK|*2|:1|:0|:0|$1|1|",
+    ),
+    (
+        "MSET a 1 b 2 c 3\nFLUSHDB\nMSET a 1 b 2\nFLUSHDB COUNT\nGET a\nFLUSHDB NOW\n",
+        "+OK|+OK|+OK|:2|$-1|-ERR syntax error|",
+    ),
+    (
+        "AUTH x\nHELLO 3\nCLIENT SETNAME x\nCOMMAND\nMULTI\nEXPIRE a 1\nSET a 1 EX 5\nGET a\n",
+        "-ERR there are no passwords here; SELECT the tenant|-NOPROTO unsupported protocol version|+OK|*0|-ERR no transactions here; send a pipeline without MULTI|-ERR nothing expires here|-ERR nothing expires here|$-1|",
+    ),
     ("PING\nPING \"x\"\nPING\n", "+PONG|-ERR Protocol error|"),
 ];
 

@@ -37,38 +37,41 @@ module _ {S : Type 0} (exchanges : CallerRelation S) where
       → command ≡ page_after last → shown ≡ Ok page → list ≡ removes page → total ≡ sum
       → IsPaged exchanges link old command shown between mid → IsFolded exchanges between mid list (told_of shapes.Removed) plus (told.Number count) total next new
       → IsCleared exchanges link old last (told.Number count) page sum next new
-  cleared_as command shown page list last count total sum link between next old mid new e f h i paged folded =
-      (
-        between,
-        mid,
-        paged_as command (page_after last) shown (Ok page) link between old mid e f paged,
-        subst (λ (x : Told). IsFolded exchanges between mid (removes page) (told_of shapes.Removed) plus (told.Number count) x next new) i
+  cleared_as command shown page list last count total sum link between next old mid new e f h i paged folded = (
+    between,
+    mid,
+    paged_as command (page_after last) shown (Ok page) link between old mid e f paged,
+    subst (λ (x : Told). IsFolded exchanges between mid (removes page) (told_of shapes.Removed) plus (told.Number count) x next new) i
         (subst (λ (x : List Command). IsFolded exchanges between mid x (told_of shapes.Removed) plus (told.Number count) total next new) h folded),
-      )
+  )
 
   module _ (knows : KnowledgeRelation S) where
     pub scanned_keys : (link next : Link) (old new : S) (cursor count number after_it : ℕ) (pattern : Option Bytes) (begun : Option (Bytes × Bool)) (from : Bytes) (after : Bool) (command : Command) (shown : Result Page Told) (page : Page)
         → begun ≡ Some (from, after) → number ≡ scan_count count → command ≡ page_of from after number → shown ≡ Ok page → IsBegun knows link.tenant cursor begun old
         → IsPaged exchanges link old command shown next new → IsCursor knows link.tenant number page after_it new → IsScanned exchanges knows link old cursor pattern count (told.Keys after_it page pattern) next new
-    scanned_keys link next old new cursor count number after_it pattern begun from after command shown page e n c s begins paged ends =
+    scanned_keys link next old new cursor count number after_it pattern begun from after command shown page e n c s begins paged ends = (
+      Some (from, after),
+      subst (λ (x : Option (Bytes × Bool)). IsBegun knows link.tenant cursor x old) e begins,
+      (
+        Ok page,
+        subst (λ (x : ℕ). IsPaged exchanges link old (page_of from after x) (Ok page) next new) n (paged_as command (page_of from after number) shown (Ok page) link next old new c s paged),
         (
-          Some (from, after),
-          subst (λ (x : Option (Bytes × Bool)). IsBegun knows link.tenant cursor x old) e begins,
-          (Ok page,
-          subst (λ (x : ℕ). IsPaged exchanges link old (page_of from after x) (Ok page) next new) n (paged_as command (page_of from after number) shown (Ok page) link next old new c s paged),
-          (after_it,
+          after_it,
           subst (λ (x : ℕ). IsCursor knows link.tenant x page after_it new) n ends,
-          refl)),
-        )
+          refl,
+        ),
+      ),
+    )
 
     pub scanned_none : (link next : Link) (old new : S) (cursor count number : ℕ) (pattern : Option Bytes) (begun : Option (Bytes × Bool)) (from : Bytes) (after : Bool) (command : Command) (shown : Result Page Told) (one : Told)
         → begun ≡ Some (from, after) → number ≡ scan_count count → command ≡ page_of from after number → shown ≡ Err one → IsBegun knows link.tenant cursor begun old
         → IsPaged exchanges link old command shown next new → IsScanned exchanges knows link old cursor pattern count one next new
-    scanned_none link next old new cursor count number pattern begun from after command shown one e n c s begins paged =
-        (
-          Some (from, after),
-          subst (λ (x : Option (Bytes × Bool)). IsBegun knows link.tenant cursor x old) e begins,
-          (Err one,
-          subst (λ (x : ℕ). IsPaged exchanges link old (page_of from after x) (Err one) next new) n (paged_as command (page_of from after number) shown (Err one) link next old new c s paged),
-          refl),
-        )
+    scanned_none link next old new cursor count number pattern begun from after command shown one e n c s begins paged = (
+      Some (from, after),
+      subst (λ (x : Option (Bytes × Bool)). IsBegun knows link.tenant cursor x old) e begins,
+      (
+        Err one,
+        subst (λ (x : ℕ). IsPaged exchanges link old (page_of from after x) (Err one) next new) n (paged_as command (page_of from after number) shown (Err one) link next old new c s paged),
+        refl,
+      ),
+    )

@@ -20,7 +20,7 @@ removes page = map (λ pair. commands.Remove pair.0) page
 -- the last key of a page, if it is full
 abbrev pub IsLastKey : Page → Option Bytes → Type 0
 IsLastKey page None = length page < 64
-IsLastKey page (Some key) = (front : Page) × (row : Stamped) × (page ≡ front ++ (key , row) ∷ []) × (64 ≤ length page)
+IsLastKey page (Some key) = (front : Page) × (row : Stamped) × (page ≡ front ++ (key, row) ∷ []) × (64 ≤ length page)
 
 abbrev pub is_number : Told → Bool
 is_number (told.Number n) = true
@@ -35,7 +35,7 @@ IsCleared {S = S} exchanges link old after sum page total next new =
 -- What became of a page after a key, when so many pairs were removed before: all its keys are removed and it is full, so a page follows; or what is told
 -- at the end.
 abbrev pub IsPageCleared : {S : Type 0} → CallerRelation S → Link → S → Option Bytes → ℕ → Result (Bytes × ℕ) Told → Link → S → Type 0
-IsPageCleared exchanges link old after count (Ok (key , removed)) next new =
+IsPageCleared exchanges link old after count (Ok (key, removed)) next new =
     (page : Page) × IsCleared exchanges link old after (told.Number count) page (told.Number removed) next new × IsLastKey page (Some key)
 IsPageCleared exchanges link old after count (Err total) next new =
     (IsPaged exchanges link old (page_after after) (Err total) next new)

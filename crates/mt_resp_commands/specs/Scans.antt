@@ -37,13 +37,13 @@ scan_count count = max 1 (min count 64)
 abbrev pub IsCursor : {S : Type 0} → KnowledgeRelation S → ℕ → ℕ → Page → ℕ → S → Type 0
 IsCursor knows tenant count page cursor now =
     ((length page < count) × (cursor ≡ 0))
-    ⊎ ((front : Page) × (key : Bytes) × (row : Stamped) × (count ≤ length page) × (page ≡ front ++ (key , row) ∷ []) × knows now (Keeps tenant key cursor) × (cursor ≢ 0))
+    ⊎ ((front : Page) × (key : Bytes) × (row : Stamped) × (count ≤ length page) × (page ≡ front ++ (key, row) ∷ []) × knows now (Keeps tenant key cursor) × (cursor ≢ 0))
 
 -- Where a SCAN begins: at the first key, or after that for which its cursor stands. A cursor that is not kept has none.
 abbrev pub IsBegun : {S : Type 0} → KnowledgeRelation S → ℕ → ℕ → Option (Bytes × Bool) → S → Type 0
 IsBegun knows tenant cursor begun now =
-    ((cursor ≡ 0) × (begun ≡ Some ([] , false)))
-    ⊎ ((cursor ≢ 0) × (key : Option Bytes) × knows now (Finds tenant cursor key) × (begun ≡ option_map (λ k. (k , true)) key))
+    ((cursor ≡ 0) × (begun ≡ Some ([], false)))
+    ⊎ ((cursor ≢ 0) × (key : Option Bytes) × knows now (Finds tenant cursor key) × (begun ≡ option_map (λ k. (k, true)) key))
 
 -- what is told of a SCAN's page: the keys like its pattern, and the cursor after them
 abbrev pub IsPageTold : {S : Type 0} → KnowledgeRelation S → ℕ → ℕ → Option Bytes → Result Page Told → Told → S → Type 0
@@ -53,7 +53,7 @@ IsPageTold knows tenant count pattern (Ok page) one now =
 
 abbrev pub IsScannedFrom : {S : Type 0} → CallerRelation S → KnowledgeRelation S → Link → S → Option (Bytes × Bool) → Option Bytes → ℕ → Told → Link → S → Type 0
 IsScannedFrom exchanges knows link old None pattern count one next new = (one ≡ told.Failed failures.NoCursor) × (next ≡ link) × (new ≡ old)
-IsScannedFrom exchanges knows link old (Some (from , after)) pattern count one next new =
+IsScannedFrom exchanges knows link old (Some (from, after)) pattern count one next new =
     (page : Result Page Told) × IsPaged exchanges link old (page_of from after count) page next new × IsPageTold knows link.tenant count pattern page one new
 
 -- A SCAN: a page from where its cursor stands.

@@ -130,7 +130,12 @@ pub(crate) fn range<C: Caller>(
         return Ok(refused(Refusal::ScanCount));
     }
     let prefix = prefix_of(way, &from)?;
-    match page(alloc, caller, link, page_of(alloc, from, is_after(way), count as u8))? {
+    match page(
+        alloc,
+        caller,
+        link,
+        page_of(alloc, from, is_after(way), count as u8),
+    )? {
         Ok(pairs) => Ok(Told::Pairs(pairs, prefix, stamps)),
         Err(one) => Ok(one),
     }

@@ -22,13 +22,13 @@ IsBad bytes text = (fault : Fault) × (command_at bytes ≡ Err (reads.Bad fault
 -- the bytes begin with a command that asks for the end, and what is told of it
 pub record IsEnd (bytes : Bytes) (text rest : Bytes) : Type 0 where
   pub words : List Bytes
-  pub reads : command_at bytes ≡ Ok (words , rest)
+  pub reads : command_at bytes ≡ Ok (words, rest)
   pub ends : ((meaning words ≡ asks.Quit) × (text ≡ told_text told.Fine)) ⊎ ((meaning words ≡ asks.Close) × (text ≡ told_text told.Nothing))
 
 -- the bytes begin with a Settle, of so many bytes
 pub record IsAtSettle (bytes : Bytes) (len : ℕ) : Type 0 where
   pub words : List Bytes
-  pub reads : command_at bytes ≡ Ok (words , drop len bytes)
+  pub reads : command_at bytes ≡ Ok (words, drop len bytes)
   pub asks : meaning words ≡ asks.Settle
   pub some : 0 < len
   pub inside : len ≤ length bytes
@@ -61,7 +61,7 @@ module _ {S : Type 0} (exchanges : CallerRelation S) (knows : KnowledgeRelation 
   -- What is done with the command at the front: it is answered, or the call stops for it.
   abbrev pub IsFront : Bytes → Session → S → Bytes → Option Stop → Bytes → Session → S → Bytes → Type 0
   IsFront bytes old_session old held None rest session new holds =
-      (words : List Bytes) × (text : Bytes) × (command_at bytes ≡ Ok (words , rest)) × (is_end (meaning words) ≡ false)
+      (words : List Bytes) × (text : Bytes) × (command_at bytes ≡ Ok (words, rest)) × (is_end (meaning words) ≡ false)
       × IsAnswer exchanges knows old_session.link old (meaning words) text session.link new × (holds ≡ held ++ text) × (length rest < length bytes) × (session.settle ≡ old_session.settle)
   IsFront bytes old_session old held (Some stops.Goes) rest session new holds = ⊥
   IsFront bytes old_session old held (Some stops.Waits) rest session new holds =

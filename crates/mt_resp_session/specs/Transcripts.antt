@@ -22,7 +22,7 @@ module _ {S : Type 0} (exchanges : CallerRelation S) (knows : KnowledgeRelation 
   abbrev pub Run : Bytes → Link → S → List Bytes → Bytes → Link → S → Type 0
   Run bytes link old [] rest next new = (rest ≡ bytes) × (next ≡ link) × rests old new
   Run bytes link old (text ∷ texts) rest next new =
-      (words : List Bytes) × (more : Bytes) × (from : S) × (between : Link) × (mid : S) × (command_at bytes ≡ Ok (words , more)) × (is_end (meaning words) ≡ false)
+      (words : List Bytes) × (more : Bytes) × (from : S) × (between : Link) × (mid : S) × (command_at bytes ≡ Ok (words, more)) × (is_end (meaning words) ≡ false)
       × rests old from × IsAnswer exchanges knows link from (meaning words) text between mid × Run more between mid texts rest next new
 
   -- The session's text for some bytes, of which it leaves a rest. The connection had the link before and has the next one then; the caller was

@@ -11,12 +11,11 @@ pub returns-in_err-other-clause-led : goal.returns-in_err-other-clause-led
 returns-in_err-other-clause-led g c = asked_then g.C.Caller.exchanges _ _ _ c.page.ensures.led c.sum_of.ensures.led
 
 pub returns-in-Some-clause-cleared : goal.returns-in-Some-clause-cleared
-returns-in-Some-clause-cleared g c =
-    (
-      c.in-Ok.pairs,
-      cleared_as g.C.Caller.exchanges _ _ c.in-Ok.pairs _ c.args.last c.args.count _ _ _ _ _ _ _ _ c.page_after.ensures c.in-Ok.is c.in_ok-removes.ensures c.in-Number.is c.in_ok-pairs.ensures.page c.in_ok-other.ensures.sum,
-      subst (λ (x : Option Bytes). IsLastKey c.in-Ok.pairs x) c.in-Some.is c.in_ok-last.ensures,
-    )
+returns-in-Some-clause-cleared g c = (
+  c.in-Ok.pairs,
+  cleared_as g.C.Caller.exchanges _ _ c.in-Ok.pairs _ c.args.last c.args.count _ _ _ _ _ _ _ _ c.page_after.ensures c.in-Ok.is c.in_ok-removes.ensures c.in-Number.is c.in_ok-pairs.ensures.page c.in_ok-other.ensures.sum,
+  subst (λ (x : Option Bytes). IsLastKey c.in-Ok.pairs x) c.in-Some.is c.in_ok-last.ensures,
+)
 
 pub returns-in-Some-clause-led : goal.returns-in-Some-clause-led
 returns-in-Some-clause-led g c = asked_then g.C.Caller.exchanges _ _ _ c.page.ensures.led c.sum_of.ensures.led

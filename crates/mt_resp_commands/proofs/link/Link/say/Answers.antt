@@ -11,10 +11,10 @@ pub returns-in-Ok-clause-led : goal.returns-in-Ok-clause-led
 returns-in-Ok-clause-led g c =
     let exchanges = g.C.Caller.exchanges in
     let opened : Asked (ButSettles exchanges) c.args.caller.now c.if-not-self.caller =
-        elim c.if-not-self.branch [
-          | then-not-self+in_default w ↦ subst (λ x. Asked (ButSettles exchanges) c.args.caller.now x) (sym w.caller-is) (asked_open exchanges _ _ _ _ w.open.ensures)
-          | else-not-self w ↦ asked_same exchanges _ _ w.caller-is
-        ]
+    elim c.if-not-self.branch [
+      | then-not-self+in_default w ↦ subst (λ x. Asked (ButSettles exchanges) c.args.caller.now x) (sym w.caller-is) (asked_open exchanges _ _ _ _ w.open.ensures)
+      | else-not-self w ↦ asked_same exchanges _ _ w.caller-is
+    ]
     in
     asked_then exchanges _ _ _ opened (asked_call exchanges _ _ _ _ c.call.ensures)
 
@@ -22,10 +22,10 @@ pub returns-in-Err-Refused-clause-led : goal.returns-in-Err-Refused-clause-led
 returns-in-Err-Refused-clause-led g c =
     let exchanges = g.C.Caller.exchanges in
     let opened : Asked (ButSettles exchanges) c.args.caller.now c.if-not-self.caller =
-        elim c.if-not-self.branch [
-          | then-not-self+in_default w ↦ subst (λ x. Asked (ButSettles exchanges) c.args.caller.now x) (sym w.caller-is) (asked_open exchanges _ _ _ _ w.open.ensures)
-          | else-not-self w ↦ asked_same exchanges _ _ w.caller-is
-        ]
+    elim c.if-not-self.branch [
+      | then-not-self+in_default w ↦ subst (λ x. Asked (ButSettles exchanges) c.args.caller.now x) (sym w.caller-is) (asked_open exchanges _ _ _ _ w.open.ensures)
+      | else-not-self w ↦ asked_same exchanges _ _ w.caller-is
+    ]
     in
     asked_then exchanges _ _ _ opened (asked_call exchanges _ _ _ _ c.call.ensures)
 
@@ -33,9 +33,9 @@ pub returns-in-Err-Stuck-clause-led : goal.returns-in-Err-Stuck-clause-led
 returns-in-Err-Stuck-clause-led g c =
     let exchanges = g.C.Caller.exchanges in
     let opened : Asked (ButSettles exchanges) c.args.caller.now c.if-not-self.caller =
-        elim c.if-not-self.branch [
-          | then-not-self+in_default w ↦ subst (λ x. Asked (ButSettles exchanges) c.args.caller.now x) (sym w.caller-is) (asked_open exchanges _ _ _ _ w.open.ensures)
-          | else-not-self w ↦ asked_same exchanges _ _ w.caller-is
-        ]
+    elim c.if-not-self.branch [
+      | then-not-self+in_default w ↦ subst (λ x. Asked (ButSettles exchanges) c.args.caller.now x) (sym w.caller-is) (asked_open exchanges _ _ _ _ w.open.ensures)
+      | else-not-self w ↦ asked_same exchanges _ _ w.caller-is
+    ]
     in
     asked_then exchanges _ _ _ opened (asked_call exchanges _ _ _ _ c.call.ensures)
