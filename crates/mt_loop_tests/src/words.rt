@@ -6,7 +6,7 @@ use mt_resp::{Status, Told};
 use mt_resp_session::{Knows, Session, Stop, answer};
 use mt_rows::{Command, Key, PlainMap, Refusal, Reply};
 use mt_session::{PlainCaller, PlainTenant};
-use std::alloc::{AllocError, Global};
+use std::alloc::{Alloc, AllocError, Global};
 use std::process::Abort;
 
 // A plain caller that settles. Its cursors are one more than the first byte of their keys.
@@ -180,8 +180,8 @@ fn expect_told(rt: &impl Abort, alloc: Global, asked: &[u8], wanted: &str) {
 }
 
 #[test]
-fn sessions_are_told_the_same_however_their_bytes_come(rt: &impl Abort, alloc: Global) {
+fn sessions_are_told_the_same_however_their_bytes_come(rt: HostRuntime) {
     for &(asked, wanted) in &SESSIONS {
-        expect_told(rt, alloc, asked.as_bytes(), wanted);
+        expect_told(&rt, rt.alloc(), asked.as_bytes(), wanted);
     }
 }
