@@ -72,39 +72,33 @@ fn told(alloc: Global, bytes: &[u8], piece: usize) -> Result<Vec<u8>, AllocError
     let mut output = Vec::new(alloc);
     for more in bytes.chunks(piece.max(1)) {
         input.extend_from_slice(more)?;
-        while let Some(goes_on) = go_on(
-            alloc,
-            &mut server,
-            &mut session,
-            &mut input,
-            &mut output,
-        )? {
-            if !goes_on {
-                return Ok(output);
-            }
+        if !answer_whole(alloc, &mut server, &mut session, &mut input, &mut output)? {
+            break;
         }
     }
     Ok(output)
 }
 
-// One call of three commands at most: nothing if it waits, and whether the session goes on.
-fn go_on(
+// Answers the whole commands of the input, three in a call at most: whether the session goes on.
+fn answer_whole(
     alloc: Global,
     server: &mut Server,
     session: &mut Session,
     input: &mut BytesMut,
     output: &mut Vec<u8>,
-) -> Result<Option<bool>, AllocError> {
-    match answer(alloc, server, session, input, output, 3, usize::MAX) {
-        Stop::Waits => Ok(None),
-        Stop::Goes => Ok(Some(true)),
-        Stop::Settles if session.settle <= input.len() => {
-            session.tell_settled(server.settle(), input, output)?;
-            Ok(Some(true))
+) -> Result<bool, AllocError> {
+    for _ in 0..100 {
+        match answer(alloc, server, session, input, output, 3, usize::MAX) {
+            Stop::Waits => return Ok(true),
+            Stop::Goes => {}
+            Stop::Settles if session.settle <= input.len() => {
+                session.tell_settled(server.settle(), input, output)?;
+            }
+            Stop::Settles | Stop::Memory => return Err(AllocError),
+            Stop::Quits | Stop::Refused => return Ok(false),
         }
-        Stop::Settles | Stop::Memory => Err(AllocError),
-        Stop::Quits | Stop::Refused => Ok(Some(false)),
     }
+    Err(AllocError)
 }
 
 // Each session: its commands, and what is told, with a bar for the end of a line.
