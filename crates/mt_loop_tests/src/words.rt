@@ -141,7 +141,7 @@ const SESSIONS: [(&str, &str); 14] = [
     ),
     (
         "SET a 1\nGETS a\nPUTIF a 1 2\nPUTIF a 1 3\nSET a 4 IFSTAMP 3\nGET a\n",
-        "+OK|*2|$1|1|:1|+OK|$-1|+OK|$1|4|",
+        "+OK|*2|$1|1|:1|:1|:0|+OK|$1|4|",
     ),
     (
         "SET a 1\nWAITAOF 1 0 0\nWAIT 0 0\nGET a\n",
